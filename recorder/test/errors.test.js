@@ -32,7 +32,7 @@ test('errors with their places, one that a function of the browser hands on, and
 });
 
 /** Pages that throw if something is not as the HTML Standard says. */
-const CHECK_THEMSELVES = ['message-source.html'];
+const CHECK_THEMSELVES = ['message-source.html', 'removed-again.html'];
 
 for (const page of CHECK_THEMSELVES) {
   test(`${page} finds the same as without the recorder`, { timeout: 150000 }, async () => {

@@ -340,5 +340,10 @@ exports.cases = [
     due: ['run asks', 'post', 'message', 'run child', 'post', 'close', 'back', 'message', 'run heard', 'r answers'],
     races: [],
   },
+  {
+    page: 'removed-too-late.html', // the removal finds nothing, as the event came before
+    due: ['on answers', 'w custom of button#ask', 'eload img', 'inline button#ask custom', 'run answers', 'w custom of button#ask', 'timer', 'r custom of button#ask'],
+    races: ['custom of button#ask'],
+  },
   { page: 'message-own-and-sandboxed.html', due: ['fire iframe message', 'run heard', 'timer', 'post', 'message', 'run heard'], races: [] },
 ];
