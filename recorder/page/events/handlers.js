@@ -1,7 +1,8 @@
 // Handlers: their slots, and listeners. A registration is a write of a slot of its target.
 
-import { findItem, valuesOf } from '../core/lists.js';
+import { each, findItem, keysOf, valuesOf } from '../core/lists.js';
 import { replaceMethod } from '../core/replacing.js';
+import { hasEnd, sliceOf } from '../core/strings.js';
 import { Map, String, WeakMap, apply } from '../core/taken.js';
 import { isThing } from '../core/things.js';
 import { spellName } from '../log/spelling.js';
@@ -201,6 +202,20 @@ class Handlers {
       now.delete(listener);
       this.recording.access('w', this.slot(target, type, found.handler));
     }, { once: true }]);
+  }
+
+  /**
+   * `document.open` has removed all listeners of a target.
+   * @param {Target} target
+   */
+  forgetAll(target) {
+    const byKey = this.listeners.get(target) || new Map();
+    each(keysOf(byKey), (key) => {
+      const { now } = byKey.get(key);
+      const type = sliceOf(key, 0, hasEnd(key, '|true') ? -5 : -6);
+      each(valuesOf(now), ({ handler }) => this.recording.access('w', this.slot(target, type, handler)));
+      now.clear();
+    });
   }
 
   /**

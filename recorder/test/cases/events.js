@@ -345,5 +345,15 @@ exports.cases = [
     due: ['on answers', 'w custom of button#ask', 'eload img', 'inline button#ask custom', 'run answers', 'w custom of button#ask', 'timer', 'r custom of button#ask'],
     races: ['custom of button#ask'],
   },
+  {
+    page: 'attribute-removed.html',
+    due: ['eload img', 'w click of button#one', 'w click of button#two', 'w click of button#three', 'w click of button#four', 'timer', 'inline button#one click', 'r click of button#one'],
+    races: ['click of button#four', 'click of button#one', 'click of button#three', 'click of button#two'],
+  },
+  {
+    page: 'opened-anew.html',
+    due: ['on sized', 'w custom of window', 'timer', 'w custom of window', 'timer', 'on sized', 'w custom of window', 'timer', 'inline window custom', 'run sized'],
+    races: [],
+  },
   { page: 'message-own-and-sandboxed.html', due: ['fire iframe message', 'run heard', 'timer', 'post', 'message', 'run heard'], races: [] },
 ];
