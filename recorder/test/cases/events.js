@@ -346,6 +346,11 @@ exports.cases = [
     races: ['custom of button#ask'],
   },
   {
+    page: 'removed-too-early.html', // the removal finds nothing, as the registration came after
+    due: ['eload img', 'r custom of EventTarget', 'timer', 'on answers', 'w custom of EventTarget'],
+    races: ['custom of EventTarget'],
+  },
+  {
     page: 'attribute-removed.html',
     due: ['eload img', 'w click of button#one', 'w click of button#two', 'w click of button#three', 'w click of button#four', 'timer', 'inline button#one click', 'r click of button#one'],
     races: ['click of button#four', 'click of button#one', 'click of button#three', 'click of button#two'],
