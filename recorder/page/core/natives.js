@@ -20,6 +20,7 @@ function takeNatives(window) {
     getAttribute: Element.prototype.getAttribute,
     setAttribute: Element.prototype.setAttribute,
     hasAttribute: Element.prototype.hasAttribute,
+    nameOfAttribute: getterOf(window.Attr.prototype, 'name'),
     getAttributeNames: Element.prototype.getAttributeNames,
     remove: Element.prototype.remove,
     contains: Node.prototype.contains,

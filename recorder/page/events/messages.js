@@ -29,7 +29,8 @@ class Messages {
     const { window } = this.page;
     replaceMethod(window, 'postMessage', (native) => function postMessage() {
       const { 1: second } = arguments;
-      messages.#postTo(messages.#isForHere(second) ? [window] : [], window, arguments, () => apply(native, window, arguments));
+      const poster = messages.recording.takePoster() || messages;
+      messages.#postTo(messages.#isForHere(second) ? [window] : [], window, arguments, () => poster.callHere(native, window, arguments));
     });
     this.#replaceChannel(window);
     this.#replaceBroadcasts(window);
@@ -84,6 +85,16 @@ class Messages {
   }
 
   // ---- posting
+
+  /**
+   * Calls a function of the browser: what this window's code calls. The `source` of a message is the window of the newest function on the stack.
+   * @param {import('../types').Method} native
+   * @param {PageWindow} receiver
+   * @param {ArrayLike<any>} words
+   */
+  callHere(native, receiver, words) {
+    return apply(native, receiver, words);
+  }
 
   /**
    * A port hands out messages once it is started, whenever they were posted.

@@ -335,5 +335,30 @@ exports.cases = [
   // messages of a frame that is not recorded come after what made the frame
   { page: 'message-sandboxed.html', due: ['run starts', 'on heard', 'fire iframe message', 'run heard', 'fire iframe message', 'run heard'], races: [] },
   { page: 'message-sandboxed-early.html', due: ['timer', 'on heard', 'fire iframe message', 'run heard'], races: ['message of window'] },
+  {
+    page: 'message-source.html',
+    due: ['run asks', 'post', 'message', 'run child', 'post', 'close', 'back', 'message', 'run heard', 'r answers'],
+    races: [],
+  },
+  {
+    page: 'removed-too-late.html', // the removal finds nothing, as the event came before
+    due: ['on answers', 'w custom of button#ask', 'eload img', 'inline button#ask custom', 'run answers', 'w custom of button#ask', 'timer', 'r custom of button#ask'],
+    races: ['custom of button#ask'],
+  },
+  {
+    page: 'removed-too-early.html', // the removal finds nothing, as the registration came after
+    due: ['eload img', 'r custom of EventTarget', 'timer', 'on answers', 'w custom of EventTarget'],
+    races: ['custom of EventTarget'],
+  },
+  {
+    page: 'attribute-removed.html',
+    due: ['eload img', 'w click of button#one', 'w click of button#two', 'w click of button#three', 'w click of button#four', 'timer', 'inline button#one click', 'r click of button#one'],
+    races: ['click of button#four', 'click of button#one', 'click of button#three', 'click of button#two'],
+  },
+  {
+    page: 'opened-anew.html',
+    due: ['on sized', 'w custom of window', 'timer', 'w custom of window', 'timer', 'on sized', 'w custom of window', 'timer', 'inline window custom', 'run sized'],
+    races: [],
+  },
   { page: 'message-own-and-sandboxed.html', due: ['fire iframe message', 'run heard', 'timer', 'post', 'message', 'run heard'], races: [] },
 ];
