@@ -139,6 +139,9 @@ exports.cases = [
     due: ['tick', 'w state', 'run isReady', 'w state', 'run startViewTransition', 'run isDone', 'r state'],
     races: [],
   },
+  { page: 'view-transition-waits.html', due: ['tick', 'reply', 'w state', 'run startViewTransition', 'run isDone', 'r state'], races: [] },
+  { page: 'view-transition-skipped.html', due: ['tick', 'w state', 'timer', 'run isNot', 'r state'], races: ['state'] },
+  { page: 'view-transition-late.html', due: ['tick', 'run isReady', 'w state', 'timer', 'run isDone', 'r state'], races: ['state'] },
 
   // ---- a dialog's `close`, which is never merged; a request that code aborts
   {
