@@ -280,6 +280,8 @@ exports.cases = [
     races: [],
   },
   { page: 'toggles.html', due: ['set 5', 'set 1', 'set 0', 'w isShown', 'new div#over plain', 'fire div#over toggle', 'run toggle'], never: ['fire dialog#dialog cancel'], races: [] },
+  { page: 'popover-closed.html', due: ['timer', 'w isShown', 'new div#first plain', 'fire div#first toggle', 'run toggle', 'r isShown'], races: [] },
+  { page: 'popover-stays.html', races: ['isShown'] },
   {
     page: 'storage-event.html',
     due: ['timer', 'w first', 'new window plain', 'fire window storage', 'run stored', 'timer', 'w second', 'new window plain', 'fire window storage', 'r second'],
