@@ -269,6 +269,12 @@ exports.cases = [
   },
   { page: 'history-back.html', due: ['timer', 'w asked', 'new window plain', 'fire window popstate', 'run stepped', 'r asked'], races: [] },
   {
+    page: 'navigation-back.html',
+    due: ['timer', 'w asked', 'new Navigation plain', 'new window plain', 'fire Navigation navigate', 'run goes', 'r asked', 'fire window popstate', 'run stepped', 'r asked'],
+    races: [],
+  },
+  { page: 'navigation-twice.html', due: ['w asked', 'wfire popstate', 'run stepped', 'r asked'], races: ['asked', 'popstate of window'] },
+  {
     page: 'rejections.html',
     due: ['timer', 'w first', 'new window plain', 'fire window unhandledrejection', 'run unhandled', 'r first', 'timer', 'w second', 'new window plain',
       'fire window unhandledrejection', 'r second'],
