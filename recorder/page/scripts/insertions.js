@@ -2,6 +2,7 @@
 // loads of style sheets.
 
 import { WeakSet, apply } from '../core/taken.js';
+import { MADE_OF_TEXT } from '../log/log.js';
 
 class Insertions {
   /** @param {import('../types').Page} page */
@@ -13,6 +14,16 @@ class Insertions {
      * @type {WeakSet<Element>}
      */
     this.started = new WeakSet();
+    /**
+     * The scripts that run when they are inserted: a call of the page has made them, and no text that it has set (`innerHTML`).
+     * @type {WeakSet<Element>}
+     */
+    this.made = new WeakSet();
+  }
+
+  /** A call of the page has made an element, which can be a script. */
+  noteMade(/** @type {Element} */ element) {
+    if (element.localName === 'script') this.made.add(element);
   }
 
   /**
@@ -20,12 +31,14 @@ class Insertions {
    * @param {Element} element
    */
   starts(element) {
-    const { kinds, tree, elements } = this.page;
+    const { calls, kinds, tree, elements } = this.page;
     if (this.started.has(element) || tree.staticScripts.has(elements.number(element))) return false;
     const isEmpty = !kinds.hasSource(element) && !element.textContent;
     if (isEmpty || !kinds.scriptType(element)) return false;
     this.started.add(element);
-    return kinds.ofInsertedScript(element) === 'async';
+    const runsLater = kinds.ofInsertedScript(element) === 'async';
+    if (!runsLater && (this.made.has(element) || calls.isWriting())) this.recording.log.miss(MADE_OF_TEXT);
+    return runsLater;
   }
 
   /**
