@@ -52,6 +52,7 @@ function takeNatives(window) {
     localStorage: getterOf(window, 'localStorage'),
     sessionStorage: getterOf(window, 'sessionStorage'),
     navigation: window.Navigation && navigationGetters(window),
+    aborted: getterOf(window.AbortSignal.prototype, 'aborted'),
     transaction: window.IDBDatabase && window.IDBDatabase.prototype.transaction,
     count: window.IDBObjectStore && window.IDBObjectStore.prototype.count,
     requestAnimationFrame: window.requestAnimationFrame.bind(window),
