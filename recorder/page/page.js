@@ -34,6 +34,7 @@ import { Navigations } from './events/navigations.js';
 import { OnHandlers } from './events/on-handlers.js';
 import { Queued } from './events/queued.js';
 import { Addresses } from './scripts/addresses.js';
+import { Broken } from './scripts/broken.js';
 import { InOrder } from './scripts/in-order.js';
 import { InsertedModules } from './scripts/inserted-modules.js';
 import { Insertions } from './scripts/insertions.js';
@@ -110,6 +111,7 @@ class Page {
     this.messages = new Messages(this);
     this.reactions = new Reactions(this);
     this.scripts = new Scripts(this);
+    this.broken = new Broken(this);
     this.modules = new Modules(this);
     this.insertedModules = new InsertedModules(this);
     this.addresses = new Addresses(this);

@@ -52,6 +52,8 @@ function takeNatives(window) {
     setTimeout: window.setTimeout.bind(window),
     localStorage: getterOf(window, 'localStorage'),
     sessionStorage: getterOf(window, 'sessionStorage'),
+    navigation: window.Navigation && navigationGetters(window),
+    aborted: getterOf(window.AbortSignal.prototype, 'aborted'),
     transaction: window.IDBDatabase && window.IDBDatabase.prototype.transaction,
     count: window.IDBObjectStore && window.IDBObjectStore.prototype.count,
     requestAnimationFrame: window.requestAnimationFrame.bind(window),
@@ -84,6 +86,13 @@ function getterOf(owner, name) {
 function setterOf(owner, name) {
   return /** @type {(this: T, value: T[K]) => void} */ (getOwnPropertyDescriptor(owner, name)?.set);
 }
+
+/** @param {import('../types').PageWindow} window */
+const navigationGetters = ({ Navigation, NavigationHistoryEntry }) => ({
+  entries: Navigation.prototype.entries,
+  currentEntry: getterOf(Navigation.prototype, 'currentEntry'),
+  key: getterOf(NavigationHistoryEntry.prototype, 'key'),
+});
 
 /** @param {HTMLInputElement|HTMLTextAreaElement} owner */
 const selectionGetters = (owner) => ({ start: getterOf(owner, 'selectionStart'), end: getterOf(owner, 'selectionEnd') });

@@ -227,9 +227,12 @@ class Elements {
   /** Writes the parse steps of what the last script made, as its run is over. Called at the start of a task, and before further parse steps. */
   writeJoining() {
     if (!this.joining.size) return;
-    const { joining } = this;
+    const { joining, page } = this;
     this.joining = new Map();
-    joining.forEach(({ kind, element }, number) => this.page.tree.writeParsed(element, number, kind));
+    joining.forEach(({ kind, element }, number) => {
+      const isPlain = kind === 'image' && page.kinds.isLazy(element); // the script has made it lazy meanwhile
+      page.tree.writeParsed(element, number, isPlain ? 'plain' : kind);
+    });
   }
 
   /**

@@ -263,8 +263,8 @@ class Loading {
    * @param {boolean} isOfParser whether the parser goes on only after it
    */
   #noteAwaited(dispatch, number, isOfParser) {
-    const { elements, tree } = this.page;
-    const isMade = elements.awaited.has(number);
+    const { elements, kinds, tree } = this.page;
+    const isMade = elements.awaited.has(number) && !kinds.isLazy(/** @type {Element} */ (dispatch.target));
     if (isMade || tree.staticLoads.has(number)) dispatch.awaits = this.page;
     dispatch.whenClosed = () => {
       if (isMade && !this.hasBegunLoad) this.awaited[this.awaited.length] = this.recording.lastMoment();

@@ -33,6 +33,8 @@ class Made {
     const made = this;
     replaceMethod(owner, name, (native) => function make() {
       const node = apply(native, this, arguments);
+      const { insertions, natives } = made.page;
+      if (name === 'createContextualFragment') each(apply(natives.querySelectorAllOfFragment, node, ['script']), (script) => insertions.noteMade(script));
       made.#noteTree(node);
       return node;
     });

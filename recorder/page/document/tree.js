@@ -249,12 +249,12 @@ class Tree {
     this.writeParsed(element, this.elements.number(element), kind);
   }
 
-  /** A script in a closed shadow tree, which nothing finds, is made as it begins to run. */
-  addHiddenScript() {
+  /** A script in a closed shadow tree, which nothing finds, is made as it begins to run; so is what stands for a broken import map. */
+  addHiddenScript(/** @type {import('../types').Facts} */ facts = { tag: 'script', document: this.page.number }) {
     const number = this.recording.next('element');
     this.recording.declared.add(number);
     this.elements.kinds.set(number, 'inline');
-    this.recording.log.name('element', number, { tag: 'script', document: this.page.number });
+    this.recording.log.name('element', number, facts);
     this.writeParsed(null, number, 'inline');
     return number;
   }

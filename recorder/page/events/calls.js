@@ -154,6 +154,7 @@ class Calls {
     const declare = (/** @type {Element} */ element) => {
       const { recording, page } = calls;
       recording.objects?.madeElements.note(element);
+      page.insertions.noteMade(element);
       const isMine = element.ownerDocument === page.document;
       if (!recording.isOver && recording.isRunning() && isMine && !DECLARED_AT_INSERTION.has(element.localName)) {
         page.elements.declaredNumber(element);

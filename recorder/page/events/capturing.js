@@ -161,7 +161,7 @@ class Capturing {
    */
   #beginError(event, isOfWindow) {
     const { recording } = this;
-    const isInEvent = isOfWindow && !recording.contexts.length && (recording.isCheckpoint || this.page.scripts.runBroken(event));
+    const isInEvent = isOfWindow && !recording.contexts.length && (recording.isCheckpoint || this.page.broken.run(event));
     if (isInEvent) recording.enter('call');
     this.#begin(event);
     if (isInEvent) recording.contexts.length--;

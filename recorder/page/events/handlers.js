@@ -132,6 +132,7 @@ class Handlers {
    * @param {AddEventListenerOptions|undefined} options
    */
   #wrapListener(target, type, listener, options) {
+    if (this.#isAborted(options)) return listener; // the browser does not add it
     const isCapture = isCapturing(options);
     const registered = this.#registrations(target, type, isCapture);
     const known = registered.now.get(listener);
@@ -183,6 +184,19 @@ class Handlers {
         return typeof listener === 'function' ? apply(listener, this, [event]) : listener.handleEvent(event);
       });
     };
+  }
+
+  /**
+   * Whether the signal of a listener has been aborted.
+   * @param {AddEventListenerOptions|undefined} options
+   */
+  #isAborted(options) {
+    const signal = typeof options === 'object' && options !== null ? options.signal : null;
+    try {
+      return isThing(signal) && apply(this.natives.aborted, signal, []);
+    } catch { // no signal: the browser throws an error
+      return false;
+    }
   }
 
   /**

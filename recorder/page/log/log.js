@@ -139,6 +139,6 @@ class Log {
   }
 }
 
-const MADE_OF_TEXT = 'code that is made of a text (eval, Function, a timer\'s text), without what it reads';
+const MADE_OF_TEXT = 'code that is made of a text (eval, Function, a timer\'s text, an inserted script), without what it reads';
 
 export { Log, MADE_OF_TEXT };

@@ -1,7 +1,8 @@
 // Scripts that are declared before a script inserts them, as by a handler that was set, or because they were data: they start at the insertion. So do the
 // loads of style sheets.
 
-import { WeakSet, apply } from '../core/taken.js';
+import { Set, WeakSet, apply } from '../core/taken.js';
+import { MADE_OF_TEXT } from '../log/log.js';
 
 class Insertions {
   /** @param {import('../types').Page} page */
@@ -13,6 +14,21 @@ class Insertions {
      * @type {WeakSet<Element>}
      */
     this.started = new WeakSet();
+    /**
+     * Those of them that have not run.
+     * @type {Set<Element>}
+     */
+    this.due = new Set();
+    /**
+     * The scripts that run when they are inserted: a call of the page has made them, and no text that it has set (`innerHTML`).
+     * @type {WeakSet<Element>}
+     */
+    this.made = new WeakSet();
+  }
+
+  /** A call of the page has made an element, which can be a script. */
+  noteMade(/** @type {Element} */ element) {
+    if (element.localName === 'script') this.made.add(element);
   }
 
   /**
@@ -20,12 +36,15 @@ class Insertions {
    * @param {Element} element
    */
   starts(element) {
-    const { kinds, tree, elements } = this.page;
+    const { calls, kinds, tree, elements } = this.page;
     if (this.started.has(element) || tree.staticScripts.has(elements.number(element))) return false;
     const isEmpty = !kinds.hasSource(element) && !element.textContent;
     if (isEmpty || !kinds.scriptType(element)) return false;
     this.started.add(element);
-    return kinds.ofInsertedScript(element) === 'async';
+    const runsLater = kinds.ofInsertedScript(element) === 'async';
+    if (runsLater) this.due.add(element);
+    else if (this.made.has(element) || calls.isWriting()) this.recording.log.miss(MADE_OF_TEXT);
+    return runsLater;
   }
 
   /**
@@ -56,7 +75,9 @@ class Insertions {
    */
   noteSource(element) {
     const { kinds, natives } = this.page;
-    if (element.localName === 'script' && apply(natives.isConnected, element, []) && kinds.scriptType(element)) this.started.add(element);
+    if (element.localName !== 'script' || !apply(natives.isConnected, element, []) || !kinds.scriptType(element)) return;
+    if (!this.started.has(element)) this.due.add(element);
+    this.started.add(element);
   }
 }
 

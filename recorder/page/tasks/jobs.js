@@ -10,8 +10,8 @@ import { TURNS_OF_A_CHECKPOINT } from '../recording/recording.js';
 /** @typedef {import('../types').Dispatch} Dispatch */
 /**
  * Who asks for a job, in which task, and at which promise `v`: what an `await` stores until the code goes on. The job comes after `others` too, for the
- * reason `why`, and settles the promise `makes`.
- * @typedef {{v: unknown, site?: number, moment: Moment|null, task?: number, others?: (Moment|null)[], why?: string, makes?: object}} Asked
+ * reason `why`, and settles the promise `makes`. It might be for a rejection alone.
+ * @typedef {{v: unknown, site?: number, moment: Moment|null, task?: number, others?: (Moment|null)[], why?: string, makes?: object, isRejected?: boolean}} Asked
  */
 
 class Jobs {
@@ -44,8 +44,8 @@ class Jobs {
    * The actions that a job comes after, beside the one that asked for it and the one in which it runs.
    * @param {Asked} asked
    */
-  #othersOf({ v: promise, others }) {
-    return joined(this.page.promises.momentsOf(promise), others);
+  #othersOf(asked) {
+    return joined(this.page.promises.momentsOf(asked.v, asked), asked.others);
   }
 
   /**

@@ -31,6 +31,7 @@ exports.cases = [
     ],
     races: ['lazyLoaded'],
   },
+  { page: 'image-becomes-lazy.html', due: ['exec script', 'parse img plain', 'eload img', 'w got'], races: ['got', 'gotToo'] },
   {
     page: 'object-embed.html',
     due: [

@@ -139,6 +139,9 @@ exports.cases = [
     due: ['tick', 'w state', 'run isReady', 'w state', 'run startViewTransition', 'run isDone', 'r state'],
     races: [],
   },
+  { page: 'view-transition-waits.html', due: ['tick', 'reply', 'w state', 'run startViewTransition', 'run isDone', 'r state'], races: [] },
+  { page: 'view-transition-skipped.html', due: ['tick', 'w state', 'timer', 'run isNot', 'r state'], races: ['state'] },
+  { page: 'view-transition-late.html', due: ['tick', 'run isReady', 'w state', 'timer', 'run isDone', 'r state'], races: ['state'] },
 
   // ---- a dialog's `close`, which is never merged; a request that code aborts
   {
@@ -266,6 +269,12 @@ exports.cases = [
   },
   { page: 'history-back.html', due: ['timer', 'w asked', 'new window plain', 'fire window popstate', 'run stepped', 'r asked'], races: [] },
   {
+    page: 'navigation-back.html',
+    due: ['timer', 'w asked', 'new Navigation plain', 'new window plain', 'fire Navigation navigate', 'run goes', 'r asked', 'fire window popstate', 'run stepped', 'r asked'],
+    races: [],
+  },
+  { page: 'navigation-twice.html', due: ['w asked', 'wfire popstate', 'run stepped', 'r asked'], races: ['asked', 'popstate of window'] },
+  {
     page: 'rejections.html',
     due: ['timer', 'w first', 'new window plain', 'fire window unhandledrejection', 'run unhandled', 'r first', 'timer', 'w second', 'new window plain',
       'fire window unhandledrejection', 'r second'],
@@ -277,6 +286,8 @@ exports.cases = [
     races: [],
   },
   { page: 'toggles.html', due: ['set 5', 'set 1', 'set 0', 'w isShown', 'new div#over plain', 'fire div#over toggle', 'run toggle'], never: ['fire dialog#dialog cancel'], races: [] },
+  { page: 'popover-closed.html', due: ['timer', 'w isShown', 'new div#first plain', 'fire div#first toggle', 'run toggle', 'r isShown'], races: [] },
+  { page: 'popover-stays.html', races: ['isShown'] },
   {
     page: 'storage-event.html',
     due: ['timer', 'w first', 'new window plain', 'fire window storage', 'run stored', 'timer', 'w second', 'new window plain', 'fire window storage', 'r second'],

@@ -204,6 +204,22 @@ exports.cases = [
     throws: true,
   },
   {
+    page: 'import-map-broken.html',
+    due: ['w before', 'parse script plain', 'parse script inline', 'exec script', 'inline window error', 'run broken', 'r before', 'w faults', 'back', 'exec script', 'r faults'],
+    throws: true,
+  },
+  {
+    page: 'module-broken.html',
+    due: ['parse p#text plain', 'w #text', 'exec script', 'w before', 'exec script', 'inline window error', 'run broken', 'r before', 'r #text', 'w faults', 'back', 'exec script', 'r faults'],
+    throws: true,
+  },
+  {
+    page: 'module-imports-broken.html',
+    due: ['w before', 'exec script', 'inline window error', 'run broken', 'r before', 'w faults', 'back', 'inline script load', 'r faults', 'dcl'],
+    throws: true,
+  },
+  { page: 'module-broken-async.html', due: ['wfire error', 'run broken', 'r before'], races: ['before', 'error of window'], throws: true },
+  {
     page: 'no-javascript.html',
     due: [
       'parse script inline', 'parse script inline', 'exec script', 'w afterwards',
