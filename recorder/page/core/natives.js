@@ -17,6 +17,7 @@ function takeNatives(window) {
     querySelectorAllOfFragment: DocumentFragment.prototype.querySelectorAll,
     getRootNode: Node.prototype.getRootNode,
     shadowRoot: getterOf(Element.prototype, 'shadowRoot'),
+    assignedNodes: window.HTMLSlotElement.prototype.assignedNodes,
     getAttribute: Element.prototype.getAttribute,
     setAttribute: Element.prototype.setAttribute,
     hasAttribute: Element.prototype.hasAttribute,

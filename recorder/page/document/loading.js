@@ -120,6 +120,7 @@ class Loading {
     const { recording, page } = this;
     const { elements, scripts, tree } = page;
     const standIn = recording.next('element');
+    dispatch.awaits = page;
     recording.noteBeside(tree.lastParsed, `new ${page.number} ${standIn} plain`);
     recording.log.name('element', standIn, { standsFor: elements.number(page.document), why: 'the end of parsing' });
     const isAfterRun = this.lastRun.number === tree.lastParsed; // else a parse step stands between
@@ -134,7 +135,7 @@ class Loading {
    * @param {number} number
    */
   noteRunOf(number) {
-    this.lastRun = { number, end: this.recording.moment() };
+    this.lastRun = { number, end: this.recording.moment() || this.recording.lastMoment() };
   }
 
   /** A deferred script begins to run. */
@@ -271,6 +272,15 @@ class Loading {
       if (isOfParser) this.page.observers.noteBeforeScript();
       this.page.inOrder.ends(number);
     };
+  }
+
+  /**
+   * An inline module that a script inserted runs, for which load waits: it has no load event. What it does after an import that waits is another event.
+   * @param {number} number
+   * @param {Moment} moment
+   */
+  noteAwaitedRun(number, moment) {
+    if (this.page.elements.awaited.has(number) && !this.hasBegunLoad) this.awaited[this.awaited.length] = moment;
   }
 }
 

@@ -138,6 +138,7 @@ class Capturing {
     const { recording, page } = this;
     const isOfWindow = event.target === page.window;
     if (isOfWindow && recording.contexts[recording.contexts.length - 1] === 'script') {
+      page.scripts.noteEnd();
       this.#endCode(event);
       recording.leaveCall();
     } else if (isOfWindow && page.modules.isRunning()) {

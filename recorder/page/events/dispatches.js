@@ -75,6 +75,7 @@ class Dispatches {
       this.#beginAlone(dispatch);
     }
     recording.push(dispatch);
+    if (event.type === 'slotchange') page.observers.orderSlotChange(dispatch);
     if (event.isTrusted && hasConsequences(event.type)) recording.watchTask();
     page.tree.writeLate();
     this.readSlots(path.length ? path : [target], event.type);

@@ -1,8 +1,12 @@
 // Scripts that are declared before a script inserts them, as by a handler that was set, or because they were data: they start at the insertion. So do the
 // loads of style sheets.
 
+import { fits } from '../core/strings.js';
 import { Set, WeakSet, apply } from '../core/taken.js';
 import { MADE_OF_TEXT } from '../log/log.js';
+
+/** Elements that load what they have only once they are in the document, and whose kind is in an attribute. */
+const LOADS_INSERTED = /^(link|object|embed|input)$/;
 
 class Insertions {
   /** @param {import('../types').Page} page */
@@ -52,7 +56,7 @@ class Insertions {
    * @param {Element} element
    */
   noteDeclared(element) {
-    this.#noteSheet(element);
+    this.#noteLoading(element);
     if (element.localName !== 'script' || !this.starts(element)) return;
     const { elements, inOrder, sources } = this.page;
     const isMadeHere = elements.makers.get(element) === this.recording.running;
@@ -60,13 +64,17 @@ class Insertions {
   }
 
   /**
-   * A style sheet's link that another event has declared is inserted: it loads only now.
+   * What loads only now that it is inserted: a style sheet's link that another event has declared, and what was declared before it had what it loads by,
+   * as by a handler.
    * @param {Element} element
    */
-  #noteSheet(element) {
+  #noteLoading(element) {
     const { elements, kinds, sources } = this.page;
-    if (element.localName !== 'link' || elements.makers.get(element) === this.recording.running || !this.recording.isRunning()) return;
-    if (kinds.of(element, false) === 'image') sources.standIn(element, 'image', 'it was inserted');
+    if (!fits(LOADS_INSERTED, element.localName) || !this.recording.isRunning()) return;
+    const isMadeHere = elements.makers.get(element) === this.recording.running;
+    if (isMadeHere ? elements.kinds.get(elements.number(element)) !== 'plain' : element.localName !== 'link') return;
+    const kind = kinds.of(element, false);
+    if (kind === 'image' || kind === 'frame') sources.standIn(element, kind, 'it was inserted');
   }
 
   /**

@@ -76,6 +76,7 @@ class Modules {
     if (recording.isOver) return;
     const running = this.#runNow();
     if (!running.element) this.#tellElement(script, running);
+    if (running.moment?.event === running.event) this.page.loading.noteAwaitedRun(running.element, running.moment);
     this.page.natives.queueMicrotask(() => { if (recording.moduleRun === running) this.close(); });
   }
 

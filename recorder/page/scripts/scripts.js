@@ -140,15 +140,21 @@ class Scripts {
       this.page.modules.ends(fileOnStack());
       return;
     }
-    if (recording.contexts.length === 1 && recording.running === this.last.event) this.#noteEnd(this.last.number);
+    this.noteEnd();
     recording.leave();
+  }
+
+  /** The code that runs is over: if it is that of a script element, what waits for its run comes after this. Also called if it ends in an error. */
+  noteEnd() {
+    const { recording } = this;
+    if (recording.contexts.length === 1 && recording.running === this.last.event) this.#noteEndOf(this.last.number);
   }
 
   /**
    * The run of a script element is over, also of one that failed.
    * @param {number} number
    */
-  #noteEnd(number) {
+  #noteEndOf(number) {
     const { elements, inOrder, loading } = this.page;
     inOrder.ends(number);
     if (fits(/^(inline|sync)$/, elements.kinds.get(number) || '')) loading.noteRunOf(number);
@@ -230,6 +236,7 @@ class Scripts {
     const isDue = tree.staticScripts.has(number) && kind !== 'async' && !this.hasRun.has(number);
     if (!isDue || this.whyTooLate(number, kind)) return false;
     this.writeRun(element, number);
+    this.#noteEndOf(number);
     return true;
   }
 }

@@ -109,6 +109,11 @@ exports.cases = [
     races: [],
   },
   {
+    page: 'databases-in-order.html', // no path leads from one call to the other for `other`, and `a` and `b` are two
+    due: ['send', 'reply', 'run gone', 'w fresh', 'reply', 'run the request before', 'run opened', 'r fresh'],
+    races: ['last', 'latest'],
+  },
+  {
     page: 'database-cursor.html', // a change of version is a transaction, and so is what a cursor asks for in one; two transactions have no order
     due: ['run walks', 'run updates', 'w updated', 'run the request before', 'run ends', 'r updated', 'w changed', 'run the request before', 'run opens', 'r changed'],
     besides: [['run finds', 'run counts', 'r deleted', 'run the request before', 'run deletes', 'w deleted']],
