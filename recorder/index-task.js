@@ -1,5 +1,5 @@
 'use strict';
-// One call of the interface for programs, in a process of its own: gets a task as a message, and answers it with a message.
+// One call of the interface for programs, in a process of its own: gets a task as a message, and answers it with a message. The child process of the API.
 
 const fs = require('node:fs');
 const { statusOf } = require('./command.js');

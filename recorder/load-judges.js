@@ -1,5 +1,5 @@
 'use strict';
-// Page loads analyzed by several processes: half of the processors. Each has few traces at once in memory.
+// Page loads analyzed by several processes: half of the processors. Each has few traces at once in memory. A pool of child processes.
 
 const { fork } = require('node:child_process');
 const os = require('node:os');

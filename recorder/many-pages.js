@@ -1,5 +1,6 @@
 'use strict';
-// er_page --list FILE and --sitemap URL: records the pages of a list, several at once and each in a process of its own, and lists the races of all.
+// er_page --list FILE and --sitemap URL: records the pages of a list, several at once and each in a process of its own, and lists the races of all. Many URLs,
+// crawled from a file or a sitemap.
 
 const { fork } = require('node:child_process');
 const fs = require('node:fs');

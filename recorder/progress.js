@@ -1,5 +1,5 @@
 'use strict';
-// The line on standard error that shows how a recording goes, or the runs of a replay.
+// The line on standard error that shows how a recording goes, or the runs of a replay. On a terminal the line is overwritten.
 
 const ON_TERMINAL = 250;
 const ELSEWHERE = 5000;

@@ -1,5 +1,6 @@
 'use strict';
 // er_suite --replay-with COMMAND: runs the suite once more with nothing held back, then for each problem with what brings its first access held back.
+// `er_suite` runs the tests again with a response or a callback delayed.
 
 const fs = require('node:fs');
 const path = require('node:path');

@@ -1,5 +1,6 @@
 'use strict';
-// Headless Chromium, driven over a pipe of its DevTools protocol: nothing listens on a port.
+// Headless Chromium, driven over a pipe of its DevTools protocol: nothing listens on a port. Its command line flags, its temporary profile (home folder), which
+// is deleted at the end, how it starts, ends and is killed.
 
 const { spawn } = require('node:child_process');
 const fs = require('node:fs');

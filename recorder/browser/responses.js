@@ -1,5 +1,6 @@
 'use strict';
-// Takes each request and each response on its way (the protocol's Fetch domain), and leads it through the interceptors of responses/.
+// Takes each request and each response on its way (the protocol's Fetch domain), and leads it through the interceptors of responses/. The HTTP cache is off
+// meanwhile, and service workers are bypassed.
 
 const { BrowserFault } = require('./protocol.js');
 const { ChangesGuard } = require('./responses/changes-guard.js');

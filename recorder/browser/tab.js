@@ -1,5 +1,6 @@
 'use strict';
-// One tab of the browser: its session of the DevTools protocol.
+// One tab of the browser: its session of the DevTools protocol. Its target is created, its cookies are read, downloads are refused, windows that the page opens
+// (popups) are closed; `evaluate` runs code in it.
 
 /**
  * @typedef {import('./protocol.js').Protocol} Protocol

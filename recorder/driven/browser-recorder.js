@@ -1,5 +1,6 @@
 'use strict';
-// Records each page load of each tab of a browser that another program drives: for er_browser (main.js) and flows over several pages (flow-recorder.js).
+// Records each page load of each tab of a browser that another program drives: for er_browser (main.js) and flows over several pages (flow-recorder.js). Tabs,
+// windows and pages of a test run (Playwright, Puppeteer, Selenium) are its targets. The driver may kill the browser.
 
 const complaints = require('./complaints.js');
 const { addressKey } = require('./hold-plan.js');
@@ -286,7 +287,7 @@ class BrowserRecorder {
     });
   }
 
-  /** The browser has ended. */
+  /** The browser has ended, or its driver has killed it: what came of each load is written. */
   async finish() {
     clearInterval(this.timer);
     this.pause.end();

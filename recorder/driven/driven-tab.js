@@ -1,5 +1,6 @@
 'use strict';
-// A tab that a driver drives, and its page loads one after the other. A load starts when the tab shows another document, not with a step inside of one.
+// A tab that a driver drives, and its page loads one after the other. A load starts when the tab shows another document, not with a step inside of one. Also if
+// the driver itself intercepts requests (`page.route`).
 
 const { Tab } = require('../browser/tab.js');
 const { within } = require('../common/time.js');

@@ -1,5 +1,6 @@
 'use strict';
-// Only one recorder records a browser: its process number is in a file of the browser's profile.
+// Only one recorder records a browser: its process number is in a file of the browser's profile. A second one, of a browser with the same `--user-data-dir`
+// (profile directory), fails.
 
 const fs = require('node:fs');
 const path = require('node:path');

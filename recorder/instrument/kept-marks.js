@@ -1,6 +1,7 @@
 'use strict';
 // Keeps the marks of scripts by their texts, in memory and in a folder (common/cache-folder.js): a script that was marked before is not read again. The
-// result is the same as that of `instrument`, with the numbers of this run: what a mark says of its place is kept apart from it.
+// result is the same as that of `instrument`, with the numbers of this run: what a mark says of its place is kept apart from it. A cache of instrumented code
+// over runs and recordings.
 
 const { createHash } = require('node:crypto');
 const fs = require('node:fs');

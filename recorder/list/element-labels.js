@@ -1,5 +1,6 @@
 'use strict';
 // What distinguishes an element without an id from others of its kind, for a reader of the list: the text after its tag in the page's source, or its classes.
+// It names an element that has none.
 
 const { shown } = require('../common/shown.js');
 

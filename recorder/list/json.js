@@ -1,5 +1,5 @@
 'use strict';
-// The list as one object for other tools (docs/ci.md).
+// The list as one object for other tools (docs/ci.md). The output of `--json`: its members and `format`.
 
 const { placesOf, plainPlace } = require('./places.js');
 

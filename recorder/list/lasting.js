@@ -1,6 +1,7 @@
 'use strict';
 // Stable names of races and problems: the same in each recording of the page, also if lines were added above or a build renamed files.
-// A race's name is that of its problem and a second part, so whoever knows the problem knows the race.
+// A race's name is that of its problem and a second part, so whoever knows the problem knows the race. They identify a problem, by the text of its code and not
+// by line numbers: a hash.
 
 const { createHash } = require('node:crypto');
 const { FIRST_MODULE, FIRST_OBJECT } = require('../common/numbers.js');

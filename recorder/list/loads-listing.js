@@ -1,5 +1,5 @@
 'use strict';
-// The list over many page loads of a test suite: each problem once, with the loads in which it was seen.
+// The list over many page loads of a test suite: each problem once, with the loads in which it was seen. It merges all loads.
 
 const { Entries } = require('./entries.js');
 const { Listing } = require('./listing.js');

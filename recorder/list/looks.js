@@ -1,5 +1,7 @@
 'use strict';
-// Which pattern a race has (patterns/accesses.js, all: patterns/table.js), from the trace and its names alone: it is a reader's first hint, and decides nothing.
+// Which pattern a race has (patterns/accesses.js, all: patterns/table.js), from the trace and its names alone: it is a reader's first hint, and decides
+// nothing. As a late handler, a use before the definition (no lazy initialization), overwriting replies (a late response to an older request), a counter, a
+// flag.
 
 const { FIRST_FIELD, FIRST_MODULE } = require('../common/numbers.js');
 const { isOfTree } = require('../races/spelled-locations.js');

@@ -1,5 +1,6 @@
 'use strict';
-// Problems of one recording: the races of one key (`nameRace` in lasting.js: location and both places) are one. Each race is in exactly one problem.
+// Problems of one recording: the races of one key (`nameRace` in lasting.js: location and both places) are one. Each race is in exactly one problem. Duplicates
+// are merged (deduplicated) into one entry.
 
 const { isOfTree } = require('../races/spelled-locations.js');
 const { LastingNames } = require('./lasting.js');

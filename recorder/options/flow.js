@@ -1,5 +1,6 @@
 'use strict';
-// A user flow that the Recorder panel of Chrome DevTools exported, as steps. The format is that of @puppeteer/replay.
+// A user flow that the Recorder panel of Chrome DevTools exported, as steps. The format is that of @puppeteer/replay. The JSON is validated: what no flow has
+// is refused.
 
 const fs = require('node:fs');
 const path = require('node:path');

@@ -1,4 +1,5 @@
-// The recorder of one document, with all its parts.
+// The recorder of one document, with all its parts. All modules are made and started here. Hooks hide: `Function.prototype.toString` shows the browser's text
+// of a replaced function.
 
 import { each, findItem, keep } from './core/lists.js';
 import { withoutMarks } from './core/marks.js';

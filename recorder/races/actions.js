@@ -1,5 +1,5 @@
 'use strict';
-// The actions of a trace, each with the actions from which it comes. This says nothing about order.
+// The actions of a trace, each with the actions from which it comes. This says nothing about order. A graph of what requested or created what.
 
 const { RECORDS: TABLE, BEGINS, DISPATCHES, NOTES } = require('../trace/records.js');
 

@@ -1,5 +1,6 @@
 'use strict';
-// Keys of the accesses and actions of a run, by which they are found in another run of the page.
+// Keys of the accesses and actions of a run, by which they are found in another run of the page. The same callback, event handler, timer or request is found
+// again by its place, name and count.
 
 const { NamedRun } = require('./named-run.js');
 const { isByValue, nameOf } = require('./spelled-locations.js');

@@ -1,5 +1,5 @@
 'use strict';
-// Calls the analyzer (built, or unproved.js): queries about a trace. Nothing else here decides what races.
+// Calls the analyzer (built, or unproved.js): queries about a trace. Nothing else here decides what races. It is spawned as a child process.
 
 const { spawn, spawnSync } = require('node:child_process');
 const fs = require('node:fs');

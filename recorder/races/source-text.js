@@ -1,5 +1,6 @@
 'use strict';
-// Places in the page's own text, by the text there: a line can move, and its text still identifies it.
+// Places in the page's own text, by the text there: a line can move, and its text still identifies it. So what identifies a race stays when line numbers
+// change.
 
 const { splitLines } = require('../common/lines.js');
 const { withoutDigest } = require('./build-digest.js');

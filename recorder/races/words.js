@@ -1,5 +1,5 @@
 'use strict';
-// Actions and races in words, with the places in the page's source.
+// Actions and races in words, with the places in the page's source. Sentences that describe a race.
 
 const { FIRST_FOREIGN_TIMEOUT } = require('../common/numbers.js');
 const { shown } = require('../common/shown.js');

@@ -1,5 +1,6 @@
 'use strict';
-// Records what another program drives: the page that the first tab of a running Chromium loads next, until the driver ends it or loads another one.
+// Records what another program drives: the page that the first tab of a running Chromium loads next, until the driver ends it or loads another one. `er_record
+// --attach`.
 
 const { printError } = require('../common/output.js');
 const { BrowserFault } = require('../browser/protocol.js');

@@ -1,5 +1,6 @@
 'use strict';
-// Records one page in a browser of its own: loads it, does what the user does, and waits until the page is at rest.
+// Records one page in a browser of its own: loads it, does what the user does, and waits until the page is at rest. `--time` limits how long it loads (the
+// maximum duration).
 
 const { Chromium } = require('../browser/chromium.js');
 const { resolveAddress } = require('../browser/folder.js');

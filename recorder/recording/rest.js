@@ -1,5 +1,6 @@
 'use strict';
-// Waits until a page is at rest: no request is open, no action started for a while, and in a run that is compared nothing is due.
+// Waits until a page is at rest: no request is open, no action started for a while, and in a run that is compared nothing is due. The network is idle, and the
+// page quiet: then a recording ends.
 
 const { sleep, within } = require('../common/time.js');
 const { PLACE_AT_REST } = require('./awaited.js');

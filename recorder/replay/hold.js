@@ -1,5 +1,5 @@
 'use strict';
-// One thing that a run of a replay holds back.
+// One thing that a run of a replay holds back. A response, a timer, an event or an act of the user.
 
 const { HOLD_NAME } = require('../browser/content-policy.js');
 const { inAnyRun } = require('../common/request-address.js');

@@ -1,5 +1,5 @@
 'use strict';
-// Runs a recorded page again so that the two accesses of a race come in the other order, and finds what differs then.
+// Runs a recorded page again so that the two accesses of a race come in the other order, and finds what differs then. A run whose tab crashes reverses nothing.
 
 const { randomInt } = require('node:crypto');
 const path = require('node:path');

@@ -1,5 +1,5 @@
 'use strict';
-// Writes a log as records of one version of the format, all of which the analyzer takes (spelling/legal.js).
+// Writes a log as records of one version of the format, all of which the analyzer takes (spelling/legal.js). The text of a trace file has these lines.
 //
 // A line of the log is a record, or one of these. After tabs it has its place in the browser's copy (or the number of a mark), what an access found
 // or wrote (page/log/values.js), and, if code requests something, the number of its stack: trace/names.js takes the first place in it outside of libraries.

@@ -1,5 +1,5 @@
 'use strict';
-// The lines of source around places, each line once.
+// The lines of source around places, each line once. Source code with line numbers.
 
 const { withoutCommands } = require('../common/shown.js');
 

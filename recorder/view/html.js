@@ -1,5 +1,6 @@
 'use strict';
-// The page of the view as one text that needs nothing else.
+// The page of the view as one text that needs nothing else. It loads no external resources: its own content policy (CSP) forbids that, and any script (XSS) of
+// a recorded page.
 
 const fs = require('node:fs');
 const path = require('node:path');

@@ -1,5 +1,5 @@
 'use strict';
-// What the page requests, and which requests have not ended.
+// What the page requests, and which requests have not ended. Requests in flight, and long polls, which are not waited for.
 
 const { requestText } = require('../changing.js');
 const { isHold } = require('./hold-scripts.js');

@@ -1,5 +1,5 @@
 'use strict';
-// Delays each file but the page, as a slow network does.
+// Delays each file but the page, as a slow network does. `--slow MS`: up to so many milliseconds of latency, by the address of the file.
 
 const { sleep } = require('../../common/time.js');
 

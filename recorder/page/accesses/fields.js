@@ -1,4 +1,5 @@
 // The values of form fields, cookies and storage: variables of objects of their own. Of storage not seen: `length`, `key(n)`, `clear()`, and with
+// `input.value`, `checked`, `select.selectedIndex`, `document.cookie`, `localStorage.setItem` and `getItem`, `sessionStorage`.
 // `--depth globals` accesses without a method.
 
 import { each, findItem } from '../core/lists.js';

@@ -1,4 +1,5 @@
-// What a script sets at an element, by a property or an attribute: what the element loads, and handler attributes.
+// What a script sets at an element, by a property or an attribute: what the element loads, and handler attributes. `img.src = ..`, `setAttribute('src', ..)`,
+// `script.src`, `link.href`, `integrity`.
 
 import { each, hasItem } from '../core/lists.js';
 import { replaceGetter, replaceMethod, replaceProperty } from '../core/replacing.js';

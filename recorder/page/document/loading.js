@@ -1,4 +1,5 @@
-// The events of a document's loading, and the load events of its elements.
+// The events of a document's loading, and the load events of its elements. `readystatechange`, `DOMContentLoaded` (after deferred scripts), `load`, `pageshow`,
+// `beforeunload`, and `load` and `error` (`onload`, `onerror`) of images, scripts, style sheets and frames.
 
 import { each, hasItem, joined, positionOf } from '../core/lists.js';
 import { fits } from '../core/strings.js';

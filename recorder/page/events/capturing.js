@@ -1,4 +1,5 @@
 // The recorder's own listeners, which see each dispatch of a type begin before any handler of the page runs; and dispatches that no handler hears.
+// `stopPropagation` and `stopImmediatePropagation` of the page hide no event from them.
 
 import { each, valuesOf } from '../core/lists.js';
 import { Set, apply } from '../core/taken.js';

@@ -1,4 +1,5 @@
-// Calls and changes that queue an event: what opens and closes, the full screen, scrolling, selections, storage of another frame.
+// Calls and changes that queue an event: what opens and closes, the full screen, scrolling, selections, storage of another frame. `scrollTo`, `showModal`,
+// popovers, `<details>`, `requestFullscreen`, `select()`, `localStorage.setItem` in another frame.
 
 import { each, findItem, mapped } from '../core/lists.js';
 import { replaceMethod, replaceProperty } from '../core/replacing.js';

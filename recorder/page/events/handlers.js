@@ -1,4 +1,5 @@
-// Handlers: their slots, and listeners. A registration is a write of a slot of its target.
+// Handlers: their slots, and listeners. A registration is a write of a slot of its target. `addEventListener`, `removeEventListener`, `once`, `signal`: each
+// listener is wrapped.
 
 import { findItem, valuesOf } from '../core/lists.js';
 import { replaceMethod } from '../core/replacing.js';

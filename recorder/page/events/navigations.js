@@ -1,4 +1,5 @@
 // Steps of the page's address (history): `navigate` comes before each, at once for a change of the fragment (hash), and for a way back when it is made.
+// `history.back`, `popstate`, `hashchange`, and `intercept` of the Navigation API.
 
 import { each, takeFirst } from '../core/lists.js';
 import { replaceMethod } from '../core/replacing.js';

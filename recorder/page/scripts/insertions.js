@@ -1,5 +1,5 @@
 // Scripts that are declared before a script inserts them, as by a handler that was set, or because they were data: they start at the insertion. So do the
-// loads of style sheets.
+// loads of style sheets. These are injected scripts (`appendChild`).
 
 import { WeakSet, apply } from '../core/taken.js';
 

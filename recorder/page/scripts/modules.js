@@ -1,4 +1,4 @@
-// Runs of modules, and `import()`.
+// Runs of modules, and `import()`. ES modules (`<script type=module>`), also with a top-level `await`.
 
 import { each, findItem, hasItem, joined, takeFirst } from '../core/lists.js';
 import { fits, indexIn } from '../core/strings.js';

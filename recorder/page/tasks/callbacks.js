@@ -1,4 +1,5 @@
-// Functions that the browser is given and calls later, in tasks of their own that nothing else asks for.
+// Functions that the browser is given and calls later, in tasks of their own that nothing else asks for. `scheduler.postTask`, `navigator.locks`, geolocation,
+// `canvas.toBlob`, view transitions, drag and drop.
 
 import { each, joined } from '../core/lists.js';
 import { replaceGetter, replaceMethod } from '../core/replacing.js';

@@ -1,4 +1,5 @@
-// Jobs: the reactions of promises, what `queueMicrotask` gets, and the code after an `await`. A job belongs to the action after which it runs.
+// Jobs: the reactions of promises, what `queueMicrotask` gets, and the code after an `await`. A job belongs to the action after which it runs. An async
+// function goes on (resumes) in a microtask.
 
 import { joined, keep } from '../core/lists.js';
 import { apply } from '../core/taken.js';

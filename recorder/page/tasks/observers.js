@@ -1,4 +1,5 @@
-// Observers: a mutation observer's callback is a job, those of the others are tasks. Each comes after the call of `observe()`.
+// Observers: a mutation observer's callback is a job, those of the others are tasks. Each comes after the call of `observe()`. MutationObserver,
+// IntersectionObserver, ResizeObserver, PerformanceObserver; FinalizationRegistry.
 
 import { each, findItem, joined, keep } from '../core/lists.js';
 import { putConstructor, replaceMethod } from '../core/replacing.js';

@@ -1,4 +1,5 @@
-// Calls that ask for a job: `then`, `queueMicrotask`, and promises of several promises, whose reactions come after what has settled each.
+// Calls that ask for a job: `then`, `queueMicrotask`, and promises of several promises, whose reactions come after what has settled each. `Promise.all`,
+// `allSettled`, `any`.
 
 import { each, findItem, joined } from '../core/lists.js';
 import { replaceMethod } from '../core/replacing.js';

@@ -1,4 +1,5 @@
-// XMLHttpRequest (Ajax) and fetch: requests, their replies, and the promise of a fetch, also of one that a signal aborts.
+// XMLHttpRequest (Ajax) and fetch: requests, their replies, and the promise of a fetch, also of one that a signal aborts. When the promise of a `fetch` is
+// resolved or rejected, and who reads the body (`json()`, `text()`); `readystatechange`, `load` of an XHR.
 
 import { each } from '../core/lists.js';
 import { replaceMethod } from '../core/replacing.js';

@@ -1,6 +1,7 @@
 'use strict';
 /* eslint-env browser */
-// The state of a page at the end of a run, as its user and its author find it.
+// The state of a page at the end of a run, as its user and its author find it. Its DOM as lines of text, its form fields, storage and global variables, and a
+// screenshot.
 
 const { within } = require('../../common/time.js');
 

@@ -42,8 +42,9 @@ async function isBefore(traceFile, action, pair) {
 }
 
 /**
- * @param {string} traceFile
- * @param {Needed[]} actions
+ * Those of the actions that the analyzer puts before neither of the two of a pair.
+ * @param {string} traceFile of the other run
+ * @param {Needed[]} actions by their numbers there
  * @param {number[]} pair
  */
 async function unorderedOf(traceFile, actions, pair) {

@@ -1,6 +1,6 @@
 'use strict';
 /* eslint-env browser */
-// Whether two pictures of a page differ, and by how much. The browser itself reads them.
+// Whether two pictures of a page differ, and by how much. The browser itself reads them. Screenshots, pixel by pixel.
 
 const { Tab } = require('../../browser/tab.js');
 

@@ -15,6 +15,7 @@ const IDLE = 'late handlers that changed nothing recorded';
 const IDLE_IN_WORDS = 'whose late handler ran, and changed nothing that is recorded';
 
 /**
+ * Whether the filter shows a race: its text is compared with `searched` (model.js), the sentence and the location of a race. A reload loses it.
  * @param {Race} race
  * @param {string} kind
  * @param {string} text

@@ -1,4 +1,4 @@
-// The picture of a race: all actions in recorded order in lanes, the two that race, and the links to what they come from.
+// The picture of a race: all actions in recorded order in lanes, the two that race, and the links to what they come from. Lanes and arrows in SVG.
 
 import { make, makeSvg } from './elements.js';
 import { model, originsAt, wordsOf } from './model.js';
