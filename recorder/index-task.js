@@ -70,6 +70,7 @@ async function tracesOf(given) {
 }
 
 /**
+ * The task of `list()`: analyzes traces, and writes the outputs that are asked for.
  * @param {ListTask} task
  * @returns {Promise<Report>}
  */

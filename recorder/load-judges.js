@@ -65,6 +65,7 @@ class Judge {
   }
 }
 
+/** Made by loads.js. */
 class LoadJudges {
   /** @param {Start} start */
   constructor(start) {

@@ -39,7 +39,10 @@ const ONE = path.join(__dirname, 'record-one.js');
  */
 const addressesOf = (text) => [...new Set(text.split(/\r?\n/).map((line) => line.trim()).filter((line) => line && !line.startsWith('#')))];
 
-/** @param {string} file */
+/**
+ * The addresses in the file of --list, one in each line.
+ * @param {string} file
+ */
 function readList(file) {
   let text;
   try {
@@ -112,6 +115,7 @@ function isComplete(page) {
   return !!recorded && !recorded.failed && !recorded.incomplete;
 }
 
+/** Made by `listPages`, for all pages of a list. */
 class ManyPages {
   /** @param {Page[]} pages */
   constructor(pages) {

@@ -4,6 +4,7 @@
 const ON_TERMINAL = 250;
 const ELSEWHERE = 5000;
 
+/** Made by the commands that record or replay. */
 class Progress {
   /**
    * @param {NodeJS.WriteStream} stream

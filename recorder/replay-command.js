@@ -194,6 +194,7 @@ class ReplayCommand {
     this.write(replay, races, await this.linked);
   }
 
+  /** What is printed about all replayed races, and is in the file of verdicts. */
   lines() {
     const lines = ['Run again in the other order:'];
     let part = '';

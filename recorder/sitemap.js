@@ -60,6 +60,7 @@ async function textOf(response) {
 }
 
 /**
+ * The text at an address. A redirect, another status than 2xx or no answer in time is a CommandFault.
  * @param {string} address
  * @param {Access} access
  */

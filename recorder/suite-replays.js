@@ -49,6 +49,7 @@ const LONGEST_TAIL = 500;
 /** @param {string} file what a command printed */
 const tailOf = (file) => fs.readFileSync(file, 'utf8').trimEnd().slice(-LONGEST_TAIL).split('\n').slice(-3).join(' | ');
 
+/** Made by suite.js for `er_suite --replay-with`, and by index-task.js for programs. */
 class SuiteReplays {
   /**
    * @param {LoadsListing} listing
@@ -196,6 +197,7 @@ class SuiteReplays {
   }
 
   /**
+   * The verdict on a race by a load in which its first access was held back, compared with the load in which nothing was.
    * @param {{load: SuiteLoad, held: SuiteLoad, sides: ReturnType<SuiteLoad['sidesOf']>, race: Race, cause: import('./replay/types').Cause}} tried
    * @param {Ended} ended
    * @param {Listed} problem

@@ -31,6 +31,7 @@ function readOrEmpty(file) {
   }
 }
 
+/** Made by SuiteReplays for each run. */
 class SuiteRun {
   /**
    * @param {string} command

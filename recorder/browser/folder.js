@@ -66,6 +66,7 @@ function realPath(file) {
   }
 }
 
+/** Made for `--root` or a page that is a file. */
 class Folder {
   /**
    * @param {string} root

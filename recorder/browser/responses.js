@@ -44,6 +44,7 @@ const STAGES = [{ urlPattern: '*', requestStage: 'Request' }, { urlPattern: '*',
  *   a user's name, and if they are undefined the browser asks its driver
  */
 
+/** Made for each recording: by session.js, and by driven/load.js for each load. */
 class Responses {
   /**
    * @param {import('./tab.js').Tab} tab

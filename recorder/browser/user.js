@@ -28,6 +28,7 @@ const EARLY_POLL = 10;
  */
 const isSpot = (action) => action.kind === 'spot';
 
+/** Made by the recorder of a page and by that of a flow. */
 class User {
   /** @param {import('./tab.js').Tab} tab */
   constructor(tab) {

@@ -28,6 +28,7 @@ const ONLY_SERVICE_WORKERS = [{ type: 'service_worker' }, { exclude: true }];
 /** @typedef {import('./driven-tab.js').ProtocolEvent} ProtocolEvent */
 /** @typedef {import('./load.js').Load} LoadOfPage */
 
+/** Made by main.js for a driver's browser, and by flow-recorder.js for its own. */
 class BrowserRecorder {
   /**
    * @param {import('../browser/protocol.js').Protocol} browser

@@ -24,6 +24,7 @@ const WRITTEN = 'not recorded: pages that a program writes into an empty page, a
 const LONGEST_SETTING = 1000;
 const LONGEST_SETTING_OF_OPENED = 100;
 
+/** Made by BrowserRecorder for each tab that it meets. */
 class DrivenTab {
   /**
    * @param {import('./browser-recorder.js').BrowserRecorder} recorder

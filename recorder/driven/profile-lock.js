@@ -10,6 +10,7 @@ const { isAlive } = require('./endpoint.js');
 /** Is in the command line of each recorder: the number of one that was killed can be that of another process. */
 const RECORDER = 'driven/main.js';
 
+/** Made by driven/main.js. */
 class ProfileLock {
   /** @param {string} profile the folder, which the browser has made */
   constructor(profile) {

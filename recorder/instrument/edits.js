@@ -25,7 +25,10 @@ class EditedText {
     this.originalLines = null;
   }
 
-  /** @param {Edit[]} edits */
+  /**
+   * Puts the changed text together, and notes for each piece where it starts in both texts. The edits are in ascending order.
+   * @param {Edit[]} edits
+   */
   assemble(edits) {
     /** @type {string[]} */
     const pieces = [];

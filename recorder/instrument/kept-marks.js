@@ -164,6 +164,7 @@ class KeptMarks {
   }
 
   /**
+   * The marks of a text by its key, from memory or from the folder; null if there are none. Those in memory that were used last stay longest.
    * @param {string} key
    * @returns {Kept|null}
    */

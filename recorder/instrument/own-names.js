@@ -40,6 +40,7 @@ function declaredNames({ body }) {
   return [...all].map((name) => ({ name, isVar: variables.has(name) }));
 }
 
+/** One for each run, made by `Sources`: it knows what the scripts that are instrumented by now have declared. */
 class BrowserNames {
   constructor() {
     /** @type {Set<string>} */

@@ -47,6 +47,7 @@ function also(own, texts) {
   return `(also ${told.join(', ')}${texts.length > MOST_NAMED ? ', ..' : ''})`;
 }
 
+/** Made by the list, and (`LoadEntries`) by that over many loads. */
 class Entries {
   /** @param {Listing} listing @param {Folder|null} folder the folder that was served */
   constructor(listing, folder) {

@@ -17,6 +17,7 @@ const OLD_HEAD = '# Races that are known (./er_page --known, docs/viewing.md): a
 
 class KnownFault extends Error {}
 
+/** Made by each command that prints a list (`Known.of`). */
 class Known {
   /** @param {string} text the content of the file; throws a KnownFault that names the first bad line @param {string} file */
   constructor(text, file) {

@@ -42,6 +42,7 @@ function orderOf([first, second]) {
 /** @param {string[]} sides those of a race, which has two */
 const inOrder = ([first, second]) => (first <= second ? [first, second] : [second, first]);
 
+/** Made for each trace in a list. */
 class LastingNames extends Keys {
   /** @param {string} text a trace @param {Names} names */
   constructor(text, names) {

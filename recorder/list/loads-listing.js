@@ -41,6 +41,7 @@ class LoadEntries extends Entries {
   }
 }
 
+/** Made by loads.js, for `er_suite` and for `er_page` with several pages. */
 class LoadsListing extends Listing {
   /**
    * @param {LoadRun[]} runs

@@ -27,6 +27,7 @@ function isField(location) {
   return location.startsWith('var') && number >= FIRST_FIELD && number < FIRST_MODULE && !isOfTree(location);
 }
 
+/** A part of `Problems`. */
 class Looks {
   /**
    * @param {import('./types').Report} report
@@ -68,7 +69,10 @@ class Looks {
     else if (known.length === 1 && known[0].location !== race.location) known.push(race);
   }
 
-  /** @param {import('./types').Names} names */
+  /**
+   * Finds the intervals (`setInterval`) and the first tick of each.
+   * @param {import('./types').Names} names
+   */
   readIntervals(names) {
     this.actions.lines.forEach((/** @type {string} */ line, /** @type {number} */ k) => {
       if (!line.startsWith('every ')) return;

@@ -20,6 +20,7 @@ const { ProblemWords, listed } = require('./problem-words.js');
  * @typedef {Omit<Problem, 'first'|'words'>} Folded
  */
 
+/** Made by view.js for each analyzed trace. */
 class Problems {
   /**
    * @param {string} text the trace
@@ -50,7 +51,10 @@ class Problems {
     this.unmarked = names.unmarked || [];
   }
 
-  /** @returns {Problem[]} */
+  /**
+   * Merges the races into problems, by the problem's name, and sorts these by their patterns.
+   * @returns {Problem[]}
+   */
   fold() {
     /** @type {Map<string, Folded>} */
     const problems = new Map();

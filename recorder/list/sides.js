@@ -34,6 +34,7 @@ const NAME = /^[\w$.]+$/;
  */
 const marked = (text) => (text.includes(' ') ? `the ${text}`.replace(/^the the /, 'the ') : `\`${text}\``);
 
+/** A part of `Entries`. */
 class Sides {
   /**
    * @param {Problems} problems

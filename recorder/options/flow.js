@@ -89,6 +89,7 @@ function flowStep(given, from) {
 }
 
 /**
+ * The steps of a recorded flow, checked; a fault is a UsageFault with the number of the step.
  * @param {string} name of the option
  * @param {string} file
  * @param {string} content

@@ -53,6 +53,7 @@ import { Timers } from './tasks/timers.js';
 import { documentOf } from './core/things.js';
 import { numberOfFrame } from './frames.js';
 
+/** Made by main.js for the top document and each frame of its origin. */
 class Page {
   /**
    * @param {import('./types').PageWindow} window
@@ -133,7 +134,10 @@ class Page {
     this.shadows = new Shadows(this);
   }
 
-  /** @param {'parser'|undefined} maker of what is in it by now */
+  /**
+   * Starts all parts: from now on their hooks are in place. `main.js` calls it before any script of the document.
+   * @param {'parser'|undefined} maker of what is in it by now
+   */
   start(maker) {
     const { recording } = this;
     recording.pages = keep(recording.pages, (page) => page.window !== this.window);

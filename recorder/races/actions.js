@@ -7,6 +7,7 @@ const { RECORDS: TABLE, BEGINS, DISPATCHES, NOTES } = require('../trace/records.
 const RECORDS = TABLE;
 
 /**
+ * Made for a trace by `NamedRun` and by view/why.js.
  * @typedef {object} Action
  * @property {number} number
  * @property {number} line

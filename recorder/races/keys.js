@@ -8,6 +8,7 @@ const { isByValue, nameOf } = require('./spelled-locations.js');
 /** @typedef {import('./types').Found} Found */
 /** @typedef {import('./actions.js').Action} Action */
 
+/** Made for each trace that is compared with another run, as in replays. */
 class Keys extends NamedRun {
   /**
    * @param {string} text a trace
@@ -98,7 +99,10 @@ class Keys extends NamedRun {
     return found;
   }
 
-  /** @param {string} name */
+  /**
+   * All accesses whose location has this name, each with its key, its action and its line in the trace (from 1).
+   * @param {string} name
+   */
   findAccesses(name) {
     /** @type {[key: string, action: number, line: number][]} */
     const found = [];
@@ -160,6 +164,7 @@ class Keys extends NamedRun {
     return this.byKey.get(actionKey) || [];
   }
 
+  /** The actions by their keys: several can have one. */
   sortByKey() {
     /** @type {Map<string, number[]>} */
     const byKey = new Map();

@@ -25,6 +25,7 @@ const shortAddress = (/** @type {string|undefined} */ address) => (address || ''
 const lastingAddress = (/** @type {string|undefined} */ address) => withoutDigest(shortAddress(address));
 const withoutBlanks = (/** @type {string} */ text) => text.trim().replace(/\s+/g, ' ');
 
+/** Made for the names of a trace. */
 class SourceText {
   /** @param {import('./types').NamesOfTrace} names */
   constructor(names) {

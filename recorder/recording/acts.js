@@ -23,6 +23,7 @@ const LONGEST_NOTE = 2000;
 /** @param {Act} act */
 const longestSearch = (act) => ('given' in act && act.given?.timeout) || LONGEST_SEARCH;
 
+/** Made by recorder.js for the acts of one recording. */
 class Acts {
   /**
    * @param {import('./session.js').Session} session

@@ -20,6 +20,7 @@ const IS_TAKEN = `(() => {
 const IS_READY = `void Object.defineProperty(globalThis, '${MARK}', { value: true, configurable: true })`;
 const GIVE_BACK = `delete globalThis.${MARK}`;
 
+/** Made by record.js for `--attach`. */
 class AttachedRecorder extends Session {
   /**
    * @param {string} given how the user named the browser
@@ -88,6 +89,7 @@ class AttachedRecorder extends Session {
     await this.tab?.close().catch(() => {}); // the tab has gone
   }
 
+  /** Waits until the driver loads a page, and then until it ends, loads another page, or the time is over. */
   async waitForDriver() {
     await this.openTab().evaluate(IS_READY).catch(() => {}); // the driver has loaded a page already
     printError(`er_record: attached to ${this.given}: the page that its first tab loads next is recorded`);

@@ -44,6 +44,7 @@ const NETWORK_HINTS = [
 /** @param {string} errorText */
 const hintOf = (errorText) => NETWORK_HINTS.find(([error]) => error.test(errorText))?.[1] || '';
 
+/** Made by each command that records: record.js, page-races.js, replay-race.js, and replay/runs.js for each further run. */
 class Recorder extends Session {
   /**
    * @param {string} given a web address, a file or a folder; a user and a password in it go only to its server
@@ -103,6 +104,7 @@ class Recorder extends Session {
 
   // ---- the browser
 
+  /** Starts the browser, or takes the one of the options, and opens a tab in it. */
   async openBrowser() {
     const given = this.options.browser;
     try {

@@ -22,6 +22,7 @@ const LONGEST_LOOK = 2000;
 /** The part of the time for which acts wait for a page that is not quiet: the rest is for the acts, and for what comes of them. */
 const PART_BEFORE_ACTS = 1 / 2;
 
+/** Made by recorder.js for one recording. */
 class Rest {
   /** @param {import('./session.js').Session} session */
   constructor(session) {

@@ -92,6 +92,7 @@ class RecordingFault extends Error {
   }
 }
 
+/** The base of `Recorder` and `AttachedRecorder`. */
 class Session {
   /**
    * @param {string} given the page as the user named it

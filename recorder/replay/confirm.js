@@ -28,6 +28,7 @@ const MOST_SHARED = 6;
 /** Milliseconds that a race waits for others while there is room for its runs, or as long as a run takes: a slow race holds none of them up. */
 const LONGEST_WAIT = 4000;
 
+/** One for all races of a replay: `Replay` expects each race, and asks for its differences (`find`). */
 class Confirm {
   /**
    * @param {import('./recorded.js').Recorded} recorded

@@ -9,6 +9,7 @@ const { inAnyRun } = require('../common/request-address.js');
 /** @param {string} type */
 const isReply = (type) => type === 'XHR' || type === 'Fetch';
 
+/** Made by RunSteering, for each reversal and each order that is kept. */
 class Hold {
   /**
    * @param {import('./types').Wanted} wanted

@@ -22,6 +22,7 @@ const QUIET_WITH_REVERSALS = 2000;
 /** Milliseconds between two looks at the clock. */
 const TICK = 20;
 
+/** It implements `Holds` (browser/responses/paused.js); runs.js makes one for each run, and load-steering.js extends it for driven loads. */
 class RunSteering {
   /**
    * @param {Wanted[]} reversals what is held back so that races come in the other order

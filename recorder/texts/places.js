@@ -30,6 +30,7 @@ function wholeAddress(name, bundle) {
   }
 }
 
+/** Made by `Sources`. */
 class Places {
   constructor() {
     /** @type {(Source|OriginalFile|LibraryPart)[]} */

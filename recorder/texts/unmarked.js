@@ -16,6 +16,7 @@ const WORDS = { other: 'that are no JavaScript', syntax: 'whose syntax is not kn
 /** So many places of a kind are in its line. */
 const MOST_PLACES = 5;
 
+/** A part of `Sources`. */
 class Unmarked {
   constructor() {
     /** @type {Unparsed[]} */

@@ -50,6 +50,7 @@ function readCounts(json) {
   }
 }
 
+/** Made by session.js, and by driven/load.js for each load. */
 class Intake {
   /** @param {{countSites?: () => number}} options `countSites` says how many places of marked code there are */
   constructor({ countSites = () => Infinity } = {}) {

@@ -43,6 +43,7 @@ const { namedFile } = require('./named-files.js');
  */
 const table = () => Object.create(null);
 
+/** Made by recording/files.js, once a log is written as a trace. */
 class Names {
   /**
    * @param {Texts} sources

@@ -60,6 +60,7 @@ function isMap(given) {
     && (sourcesContent === undefined || sourcesContent === null || isListOfTexts(sourcesContent));
 }
 
+/** Made by `parseMap`. */
 class SourceMap {
   /**
    * @param {MapJson} map

@@ -51,6 +51,7 @@ function collectModules(entries, word) {
   return new Map(entries.map(({ text }) => text.split(' ')).filter((words) => words[0] === word).map(([, run, number]) => [run, number]));
 }
 
+/** Made by recording/files.js for each trace that is written. */
 class Spelling {
   /**
    * @param {SpelledEntry[]} entries the log

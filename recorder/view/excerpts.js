@@ -26,6 +26,7 @@ function cutLine(text, column) {
   return { text: `${before}${plain(text.slice(column - 1, to))}${to < text.length ? '…' : ''}`, column: before.length + 1 };
 }
 
+/** A part of the view's `Model`. */
 class Excerpts {
   /** @param {import('../races/words.js').Words} words */
   constructor(words) {

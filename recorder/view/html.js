@@ -99,7 +99,10 @@ function partsOfPage() {
   return parts;
 }
 
-/** @param {ViewModel} model */
+/**
+ * The HTML of a view: its model is in it as JSON, beside its style and its script.
+ * @param {ViewModel} model
+ */
 function renderPage(model) {
   const { style, script, policy } = partsOfPage();
   return `<!doctype html>

@@ -26,6 +26,7 @@ const LONGEST_REASON = 100;
 /** @param {number|undefined} status */
 const hasBody = (status) => status !== undefined && status >= 200 && status < 300 && status !== 204;
 
+/** An interceptor: `Responses` calls `passResponse` for each response that is paused. */
 class Copies {
   /**
    * @param {import('../tab.js').Tab} tab

@@ -16,6 +16,7 @@ const PATIENCE = 5000;
 /** A request that is open for so many milliseconds without news counts no longer, also if others come and go. */
 const LONGEST_PATIENCE = 15000;
 
+/** Made by `Responses`; recording/rest.js asks it what is open. */
 class NetworkLog {
   constructor() {
     /** How many milliseconds more a request may take, as files that are delayed. */

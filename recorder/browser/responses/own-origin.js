@@ -10,6 +10,7 @@ const { originOf } = require('../../common/address.js');
  * @typedef {{requestId: string, request: {url: string}, authChallenge: {source?: string, origin: string}}} Challenge an event `Fetch.authRequired`
  */
 
+/** An interceptor: `Responses` and the recorder of a flow call `passRequest` for each request. */
 class OwnOrigin {
   /**
    * @param {import('../tab.js').Tab} tab

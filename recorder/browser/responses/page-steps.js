@@ -4,6 +4,7 @@
 
 /** @typedef {import('./paused.js').Paused} Paused */
 
+/** An interceptor: `Responses` and the recorder of a flow call `passRequest` for each request. */
 class PageSteps {
   /**
    * @param {import('../tab.js').Tab} tab

@@ -15,6 +15,7 @@ function hash(text) {
   return value;
 }
 
+/** An interceptor: `Responses` calls `passRequest` for each request with `--slow`. */
 class SlowNetwork {
   /**
    * @param {number} most delays a file by up to so many milliseconds

@@ -25,6 +25,7 @@ const LONGEST_KEY = 80;
 /** Fields in which a key changes the text whatever handlers do, unless they keep it from doing so. */
 const CHANGEABLE = ':is(input, textarea):read-write:not([maxlength])';
 
+/** One for each document: `page.fields`. */
 class Fields {
   /** @param {import('../types').Page} page */
   constructor(page) {

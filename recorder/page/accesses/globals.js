@@ -19,6 +19,7 @@ function enlarged(numbers, index) {
   return longer;
 }
 
+/** One for each document: `page.globals`. */
 class Globals {
   /** @param {import('../types').Page} page */
   constructor(page) {

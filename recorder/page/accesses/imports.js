@@ -19,6 +19,7 @@ const MOST_HANDED_ON = 16;
  * @typedef {{module: Module, name: string}} Export
  */
 
+/** One for each document: `page.imports`. */
 class Imports {
   /** @param {import('../types').Page} page */
   constructor(page) {

@@ -51,6 +51,7 @@ function idsOfSelector(selector) {
   return ids;
 }
 
+/** One for each document: `page.lookups`. */
 class Lookups {
   /** @param {import('../types').Page} page */
   constructor(page) {

@@ -18,6 +18,7 @@ const XLINK = 'http://www.w3.org/1999/xlink';
 /** What a script with it would lack is its copy, which has another text: it is not set. */
 const INTEGRITY = 'integrity attributes that scripts set, dropped';
 
+/** One for each document: `page.attributes`. */
 class Attributes {
   /** @param {import('../types').Page} page */
   constructor(page) {

@@ -18,6 +18,7 @@ const LONGEST_ADDRESS = 2000;
 /** @typedef {import('../types').Target} Target */
 /** @typedef {import('../types').Moment} Moment */
 
+/** One for each document: `page.elements`. */
 class Elements {
   /** @param {import('../types').Page} page */
   constructor(page) {

@@ -16,6 +16,7 @@ const LEAVING = ['beforeunload', 'pagehide', 'visibilitychange', 'unload'];
 /** @typedef {import('../types').NewDispatch} NewDispatch */
 /** @typedef {import('../events/dispatches.js').EventDispatch} EventDispatch */
 
+/** One for each document: `page.loading`. */
 class Loading {
   /** @param {import('../types').Page} page */
   constructor(page) {
@@ -98,7 +99,10 @@ class Loading {
     return event.type === 'load' || event.type === 'error' ? this.#beginOfElement(dispatch) : false;
   }
 
-  /** @param {EventDispatch} dispatch */
+  /**
+   * Begins `readystatechange`, `DOMContentLoaded` or `load` of the document or its window, if the dispatch is one. Returns whether it is.
+   * @param {EventDispatch} dispatch
+   */
   #beginOfDocument(dispatch) {
     const { event } = dispatch;
     const state = this.page.document.readyState;
@@ -175,6 +179,7 @@ class Loading {
   }
 
   /**
+   * Begins the dispatch that the rules know as the end of parsing (`dcl`) or of loading (`load`), after what it waits for.
    * @param {NewDispatch} dispatch
    * @param {'dcl'|'load'} end
    */

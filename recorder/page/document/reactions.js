@@ -15,6 +15,7 @@ const REACTIONS = ['connectedCallback', 'attributeChangedCallback', 'formAssocia
  * @typedef {{name: string, function: string|undefined, moment: Moment|null, isBefore: boolean}} Reaction
  */
 
+/** One for each document: `page.reactions`. */
 class Reactions {
   /** @param {import('../types').Page} page */
   constructor(page) {

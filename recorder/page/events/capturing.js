@@ -14,6 +14,7 @@ const ALWAYS_RECORDED = [
 /** `nodeType` of a shadow root. */
 const FRAGMENT = 11;
 
+/** One for each document: `page.capturing`. */
 class Capturing {
   /** @param {import('../types').Page} page */
   constructor(page) {

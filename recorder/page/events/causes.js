@@ -7,6 +7,7 @@ import { fits } from '../core/strings.js';
 import { apply } from '../core/taken.js';
 import { isElement } from '../core/things.js';
 
+/** One for each document: `page.causes`. */
 class Causes {
   /** @param {import('../types').Page} page */
   constructor(page) {

@@ -17,6 +17,7 @@ import { spellName } from '../log/spelling.js';
  * @typedef {Map<Listener, {handler: number, wrapped: import('../types').Method}>} Registered
  */
 
+/** One for each document: `page.handlers`. */
 class Handlers {
   /** @param {import('../types').Page} page */
   constructor(page) {

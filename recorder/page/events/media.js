@@ -16,6 +16,7 @@ const CHANGES = new Map([['volume', 'volumechange'], ['muted', 'volumechange'], 
 
 /** @typedef {import('./queued.js').Cause} Cause */
 
+/** One for each document: `page.media`. */
 class Media {
   /** @param {import('../types').Page} page */
   constructor(page) {

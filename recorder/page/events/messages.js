@@ -12,6 +12,7 @@ const tagOf = Object.prototype.toString;
 /** @typedef {import('../types').PageWindow} PageWindow */
 /** @typedef {import('./dispatches.js').EventDispatch} EventDispatch */
 
+/** One for each document: `page.messages`. */
 class Messages {
   /** @param {import('../types').Page} page */
   constructor(page) {

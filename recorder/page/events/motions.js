@@ -26,6 +26,7 @@ const FRAGMENT = 11;
  * @typedef {{moment: Moment, time: number, isOfStyle: boolean, isMixed: boolean}} Change
  */
 
+/** One for each document: `page.motions`. */
 class Motions {
   /** @param {import('../types').Page} page */
   constructor(page) {

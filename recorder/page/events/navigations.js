@@ -13,6 +13,7 @@ import { isPlainObject } from '../core/things.js';
  * @typedef {Event & {navigationType: string, hashChange: boolean, destination: {url: string, sameDocument: boolean}}} NavigateEvent
  */
 
+/** One for each document: `page.navigations`. */
 class Navigations {
   /** @param {import('../types').Page} page */
   constructor(page) {

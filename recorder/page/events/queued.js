@@ -28,6 +28,7 @@ const FRAMES_OF_A_CALL = 3;
  * @typedef {Cause & {type: string|null, isIt: (event: any) => boolean}} Expected `isIt` knows the class of its event
  */
 
+/** One for each document: `page.queued`. */
 class Queued {
   /** @param {import('../types').Page} page */
   constructor(page) {

@@ -12,6 +12,7 @@ const CHANGES_ALL = new Set(['pop', 'shift', 'unshift', 'splice', 'sort', 'rever
 const READS_KEY = new Set(['get', 'has']);
 const READS_MAP = new Set(['forEach', 'keys', 'values', 'entries']);
 
+/** One for each recording: `recording.objects.collections`. */
 class Collections {
   /** @param {import('../types').Objects} objects */
   constructor(objects) {

@@ -17,6 +17,7 @@ const STEPS = {
 /** @type {{[owner: string]: number|undefined}} `nodeType`, or 0 for all nodes */
 const TYPES = { Node: 0, Element: 1, Document: 9 };
 
+/** One for each recording: `recording.objects.madeElements`. */
 class MadeElements {
   /** @param {import('../types').Objects} objects */
   constructor(objects) {

@@ -11,6 +11,7 @@ import { MOST_SPREAD } from './collections.js';
  * @typedef {(string|number|null|Shape)[]} Shape
  */
 
+/** One for each recording: `recording.objects.patterns`. */
 class Patterns {
   /** @param {import('../types').Objects} objects */
   constructor(objects) {

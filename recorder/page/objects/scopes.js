@@ -43,6 +43,7 @@ class Scope {
 
 hideClass(Scope);
 
+/** One for each recording: `recording.objects.scopes`. */
 class Scopes {
   /** @param {import('../types').Objects} objects */
   constructor(objects) {

@@ -14,6 +14,7 @@ const OF_STAGED = 5;
 const AFTER = 4;
 const NOT_STAGED = -1;
 
+/** One for each recording: `recording.objects.variables`. */
 class Variables {
   /** @param {import('../types').Objects} objects */
   constructor(objects) {

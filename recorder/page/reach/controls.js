@@ -20,6 +20,7 @@ const REACHED = 'the code that showed it';
 /** @typedef {import('../document/tree.js').Maker} Maker */
 /** @typedef {import('../events/dispatches.js').EventDispatch} EventDispatch */
 
+/** One for each document: `page.controls`. */
 class Controls {
   /** @param {import('../types').Page} page */
   constructor(page) {

@@ -5,6 +5,7 @@
 import { each } from '../core/lists.js';
 import { Set } from '../core/taken.js';
 
+/** One for each document: `page.joins`. */
 class Joins {
   /** @param {import('../types').Page} page */
   constructor(page) {

@@ -3,6 +3,7 @@
 
 import { WeakSet, apply } from '../core/taken.js';
 
+/** One for each document: `page.insertions`. */
 class Insertions {
   /** @param {import('../types').Page} page */
   constructor(page) {

@@ -13,6 +13,7 @@ import { fileOnStack } from '../log/stack.js';
  * @typedef {{moments: Moment[], isByOne: boolean, asked: {interval: number, event: TraceEvent}[]}} Import
  */
 
+/** One for each document: `page.modules`. */
 class Modules {
   /** @param {import('../types').Page} page */
   constructor(page) {
@@ -94,7 +95,10 @@ class Modules {
     return ends;
   }
 
-  /** @param {number} [site] */
+  /**
+   * Begins the run of a module of which it is not known yet which element or `import()` asked for it.
+   * @param {number} [site]
+   */
   #beginRun(site) {
     const { recording } = this;
     recording.startTask();
@@ -132,6 +136,7 @@ class Modules {
   }
 
   /**
+   * The run turns out to be that of a script element: all that a script's run does is done for it.
    * @param {HTMLScriptElement} element
    * @param {ModuleRun} run
    */

@@ -33,6 +33,7 @@ const OF_TRANSITION = ['updateCallbackDone', 'ready', 'finished'];
  * @typedef {{number: number, event: import('../types').TraceEvent|null, ends: import('./promises.js').Several}} Asked
  */
 
+/** One for each document: `page.callbacks`. */
 class Callbacks {
   /** @param {import('../types').Page} page */
   constructor(page) {

@@ -4,6 +4,7 @@ const OTHER_CLOCK = 'clocks that a program put in the place of the browser\'s, w
 /** A library that only looks at timers, as zone.js, leaves the date. */
 const NAMES = /** @type {const} */ (['setTimeout', 'Date']);
 
+/** One for each document: `page.clock`. */
 class Clock {
   /** @param {import('../types').Page} page */
   constructor(page) {

@@ -20,6 +20,7 @@ const ASKERS = [
   ['IDBCursor', ['delete', 'update']],
 ];
 
+/** One for each document: `page.connections`. */
 class Connections {
   /** @param {import('../types').Page} page */
   constructor(page) {

@@ -15,6 +15,7 @@ import { TURNS_OF_A_CHECKPOINT } from '../recording/recording.js';
  * @typedef {{v: unknown, site?: number, moment: Moment|null, task?: number, others?: (Moment|null)[], why?: string, makes?: object}} Asked
  */
 
+/** One for each document: `page.jobs`. */
 class Jobs {
   /** @param {import('../types').Page} page */
   constructor(page) {

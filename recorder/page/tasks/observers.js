@@ -16,6 +16,7 @@ const OF_ALL = new Set(['PerformanceObserver', 'ReportingObserver']);
  * @typedef {{name: string, handler: number, asked: import('./jobs.js').Asked, type: string, told: {target: any, moment: Moment}[], hold: import('../types').Held|undefined, last?: Moment}} About
  */
 
+/** One for each document: `page.observers`. */
 class Observers {
   /** @param {import('../types').Page} page */
   constructor(page) {

@@ -23,6 +23,7 @@ const MOST_LINKS = 20;
 /** @param {unknown} given */
 const isNativeFunction = (given) => typeof given === 'function' && sliceOf(apply(functionText, given, []), -16) === ' [native code] }';
 
+/** One for each document: `page.promises`. */
 class Promises {
   /** @param {import('../types').Page} page */
   constructor(page) {

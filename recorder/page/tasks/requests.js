@@ -16,6 +16,7 @@ const BODY_CALLS = ['json', 'text', 'arrayBuffer', 'blob', 'formData', 'bytes'];
  * @typedef {{number: number, sender: TraceEvent|null, lastReply?: TraceEvent, database?: 'transaction'|'request', queue?: {last: import('../types').Moment|null}}} Request
  */
 
+/** One for each document: `page.requests`. */
 class Requests {
   /** @param {import('../types').Page} page */
   constructor(page) {

@@ -21,6 +21,7 @@ const LEAST_OF_NESTED = 4;
  * @typedef {{asker: TraceEvent, before: InQueue|null, ends: (Moment|null)[], why: string}} InQueue
  */
 
+/** One for each document: `page.timers`. */
 class Timers {
   /** @param {import('../types').Page} page */
   constructor(page) {

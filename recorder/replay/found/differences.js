@@ -35,6 +35,7 @@ function splitBy(list, some) {
   return { like: list.filter(isIn), unlike: list.filter((one) => !isIn(one)) };
 }
 
+/** Made by `Replay`. */
 class Differences {
   /** @param {import('../../browser/protocol.js').Protocol} browser */
   constructor(browser) {

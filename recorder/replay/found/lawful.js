@@ -63,6 +63,7 @@ async function unorderedOf(traceFile, actions, pair) {
  */
 
 /**
+ * Compares a run in the other order with what the analyzer says that this order needs.
  * @param {{traceFile: string, keys: Keys, race: {actions: number[]}, number: number}} recorded the race as it was recorded
  * @param {{file: string, keys: Keys, pair: [number, number]}} run its two actions in the other order, as they came
  * @returns {Promise<Ordered|null>} null if the analyzer prints no second order

@@ -80,6 +80,7 @@ function boxesOf(rows) {
  */
 const countingOf = (first, second) => `(() => { ${readPicture} ${boxesOf} ${countPoints} return countPoints(${JSON.stringify(first)}, ${JSON.stringify(second)}); })()`;
 
+/** A part of `Differences`. */
 class Pictures {
   /** @param {import('../../browser/protocol.js').Protocol} browser */
   constructor(browser) {

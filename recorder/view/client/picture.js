@@ -10,6 +10,7 @@ const PICTURE_WIDTH = 1000;
 const MARGIN = 12;
 const MOST_LINKS = 200;
 
+/** Made by races.js for the box of a race that is opened. */
 class Picture {
   /** @param {import('./model.js').Race} race */
   constructor(race) {

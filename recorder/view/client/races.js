@@ -28,6 +28,7 @@ function raceBox(race) {
 }
 
 /**
+ * A group of races, folded; inside are its first race and the others.
  * @param {Group} group
  * @param {ShownProblem|undefined} problem
  */

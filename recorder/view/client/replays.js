@@ -105,7 +105,10 @@ function foldedTable(differences, words) {
 /** @param {string} text */
 const asSentence = (text) => `${text[0].toUpperCase()}${text.slice(1)}.`;
 
-/** @param {Race} race */
+/**
+ * What a replay found of a race, as elements; none if it was not replayed.
+ * @param {Race} race
+ */
 function replayBox(race) {
   const replay = replayOf.get(race.number);
   if (!replay) return [];
