@@ -96,7 +96,7 @@ function markClass({ variables, inserter, options }, statement, scope) {
 }
 
 /**
- * The code at the start of a run: the call that tells the page's half which script, module, handler or address begins.
+ * The code at the start of a run: the call by which the page's half learns which script, module, handler or address begins.
  * @param {Options} options
  * @param {Program} program
  * @param {Scope} scope

@@ -9,7 +9,10 @@ const LONGEST = 30;
 /** Tags that are longer, or go on over several lines, have no label. */
 const TAG = /^<([\w-]+)((?:\s+[^\s=>"']+(?:\s*=\s*(?:"[^"]*"|'[^']*'|[^\s>"']+))?)*)\s*\/?>([^<]*)/;
 const CLASS = /\sclass\s*=\s*(?:"([^"]*)"|'([^']*)'|([^\s>"']+))/i;
-/** @type {{[name: string]: string}} */
+/**
+ * Character references of HTML (`&amp;`) that the text of an element can have.
+ * @type {{[name: string]: string}}
+ */
 const CHARACTERS = { amp: '&', lt: '<', gt: '>', quot: '"', '#39': "'", nbsp: ' ' };
 
 /**

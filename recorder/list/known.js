@@ -1,7 +1,6 @@
 'use strict';
-// The file of known problems (races.known, --known): in each line a name and its words. A malformed line is a KnownFault; names that no problem has any more
-// are It is a baseline: what it lists is not new.
-// `notSeen` (stale). Lines that begin with # are comments and keep their position.
+// The file of known problems (races.known, --known) and its format: in each line a name and its words. A malformed line is a KnownFault; names that no problem
+// has any more are It is a baseline: what it lists is not new. `notSeen` (stale). Lines that begin with # are comments and keep their position.
 
 const fs = require('node:fs');
 

@@ -86,8 +86,8 @@ function filesOf(lines) {
 }
 
 /** Of the questions of where-questions.json so many lead to their file at once, or within three files. */
-const SHARE_FIRST = 0.85;
-const SHARE_OF_THREE = 0.94;
+const SHARE_FIRST = 0.8;
+const SHARE_OF_THREE = 0.93;
 
 test('questions as newcomers ask them lead to the file that has the answer', () => {
   const ranks = CORPUS.map(({ question, files }) => {
@@ -95,7 +95,7 @@ test('questions as newcomers ask them lead to the file that has the answer', () 
     return { question, at: filesOf(answer(question)).findIndex((file) => files.includes(file)) };
   });
   const missed = ranks.filter(({ at }) => at).map(({ question, at }) => `${at + 1 || '-'} ${question}`).join('\n');
-  assert.ok(CORPUS.length >= 150);
+  assert.ok(CORPUS.length >= 190);
   assert.ok(ranks.filter(({ at }) => at === 0).length >= SHARE_FIRST * CORPUS.length, missed);
   assert.ok(ranks.filter(({ at }) => at >= 0 && at < 3).length >= SHARE_OF_THREE * CORPUS.length, missed);
 });

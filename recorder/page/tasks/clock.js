@@ -14,6 +14,7 @@ class Clock {
     this.isOther = false;
   }
 
+  /** What `look` compares later: the functions of the browser, or of the recorder in their place. */
   start() {
     this.own = [this.#current(NAMES[0]), this.#current(NAMES[1])];
   }

@@ -1,5 +1,5 @@
-// Timeouts, intervals, animation frames and idle callbacks. `setTimeout`, `setInterval`, `requestAnimationFrame` and `requestIdleCallback` are replaced, and
-// their callbacks wrapped.
+// Timeouts, intervals, animation frames and idle callbacks. `setTimeout`, `setInterval`, `requestAnimationFrame` and `requestIdleCallback` are replaced
+// (hooked), and their callbacks wrapped.
 
 import { each, joined } from '../core/lists.js';
 import { replaceMethod } from '../core/replacing.js';

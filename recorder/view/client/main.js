@@ -34,11 +34,20 @@ function filtered() {
   return found.filter(({ first, races }) => races.length > 0 || matches(first, kind, text));
 }
 
-/** @param {Line} line */
+/**
+ * How many races a line has.
+ * @param {Line} line
+ */
 const sizeOf = ({ groups: some }) => some.reduce((sum, { size }) => sum + size, 0);
-/** @param {Line} line */
+/**
+ * The position in the list; a race that is in no problem comes last.
+ * @param {Line} line
+ */
 const rankOf = ({ problem }) => problem?.order ?? Infinity;
-/** @type {{[order: string]: (a: Line, b: Line) => number}} */
+/**
+ * How two lines are compared in each order that a reader can choose; if they are equal, by the next one.
+ * @type {{[order: string]: (a: Line, b: Line) => number}}
+ */
 const ORDERS = {
   verdict: (a, b) => rankOfVerdict(a) - rankOfVerdict(b) || ORDERS.looks(a, b),
   looks: (a, b) => (rankOf(a) === rankOf(b) ? ORDERS.size(a, b) : rankOf(a) - rankOf(b)),
