@@ -113,7 +113,7 @@ class Modules {
     return run;
   }
 
-  /** A module waits at its top: its code so far has returned. */
+  /** A module waits at its top (`await`): its code so far has returned. Called by helpers/awaits.js. */
   waits() {
     const { recording } = this;
     const run = recording.moduleRun;
