@@ -1,5 +1,5 @@
 'use strict';
-// The options of the interface for programs, as arguments of the commands, which check them.
+// The options of the interface for programs, as arguments of the commands, which check them. An object of options becomes command line arguments (flags).
 
 /**
  * How a page is recorded; docs/using.md describes each option of er_record.

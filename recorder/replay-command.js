@@ -195,6 +195,7 @@ class ReplayCommand {
     this.write(replay, races, await this.linked);
   }
 
+  /** What is printed about all replayed races, and is in the file of verdicts. */
   lines() {
     if (!this.results.length) return ['No race was run again to the end.'];
     const lines = ['Run again in the other order:'];

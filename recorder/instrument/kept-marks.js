@@ -1,6 +1,7 @@
 'use strict';
 // Keeps the marks of scripts by their texts, in memory and in a folder (common/cache-folder.js): a script that was marked before is not read again. The
-// result is the same as that of `instrument`, with the numbers of this run: what a mark says of its place is kept apart from it.
+// result is the same as that of `instrument`, with the numbers of this run: what a mark says of its place is kept apart from it. A cache of instrumented code
+// over runs and recordings.
 
 const { createHash } = require('node:crypto');
 const fs = require('node:fs');
@@ -186,6 +187,7 @@ class KeptMarks {
   }
 
   /**
+   * The marks of a text by its key, from memory or from the folder; null if there are none. Those in memory that were used last stay longest.
    * @param {string} key
    * @returns {Kept|null}
    */

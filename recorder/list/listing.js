@@ -25,6 +25,7 @@ const { partOf, rankOf, sortByRank } = require('./rank.js');
  * @typedef {{line: Listed, others: Listed[]}} Line
  */
 
+/** Made for each list: by page-races.js, view.js and replay-race.js; LoadsListing extends it. */
 class Listing {
   /**
    * @param {Problems[]} runs
@@ -102,7 +103,10 @@ class Listing {
     return this.byName[run].get(name);
   }
 
-  /** @returns {Listed[]} */
+  /**
+   * The problems of all runs, each once, by their stable names.
+   * @returns {Listed[]}
+   */
   merge() {
     /** @type {Map<string, Listed>} */
     const all = new Map();

@@ -1,5 +1,5 @@
 'use strict';
-// The list over many page loads of a test suite: each problem once, with the loads in which it was seen.
+// The list over many page loads of a test suite: each problem once, with the loads in which it was seen. It merges all loads.
 
 const { Entries } = require('./entries.js');
 const { Listing } = require('./listing.js');
@@ -41,6 +41,7 @@ class LoadEntries extends Entries {
   }
 }
 
+/** Made by loads.js, for `er_suite` and for `er_page` with several pages. */
 class LoadsListing extends Listing {
   /**
    * @param {LoadRun[]} runs

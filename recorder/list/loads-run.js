@@ -100,6 +100,7 @@ function wordsOf(shown) {
 }
 
 /**
+ * The words and places of a race, as a list shows them without the load's texts.
  * @param {Problems} problems
  * @param {number} race
  * @param {(text: string) => string} copy
@@ -190,6 +191,7 @@ class LoadRuns {
   }
 
   /**
+   * What a list over many loads keeps of one, as a plain value that another process can send.
    * @param {Problems} problems
    * @param {number[]} kept the races that stay, in ascending order
    * @param {number[]} inWords those of them that are shown in words

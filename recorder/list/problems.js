@@ -1,5 +1,6 @@
 'use strict';
-// Problems of one recording: the races of one key (`nameRace` in lasting.js: location and both places) are one. Each race is in exactly one problem.
+// Problems of one recording: the races of one key (`nameRace` in lasting.js: location and both places) are one. Each race is in exactly one problem. Duplicates
+// are merged (deduplicated) into one entry.
 
 const { isOfTree } = require('../races/spelled-locations.js');
 const { LastingNames } = require('./lasting.js');
@@ -19,6 +20,7 @@ const { ProblemWords, listed } = require('./problem-words.js');
  * @typedef {Omit<Problem, 'first'|'words'>} Folded
  */
 
+/** Made by view.js for each analyzed trace. */
 class Problems {
   /**
    * @param {string} text the trace
@@ -52,7 +54,10 @@ class Problems {
     this.unmarked = names.unmarked || [];
   }
 
-  /** @returns {Problem[]} */
+  /**
+   * Merges the races into problems, by the problem's name, and sorts these by their patterns.
+   * @returns {Problem[]}
+   */
   fold() {
     /** @type {Map<string, Folded>} */
     const problems = new Map();

@@ -1,4 +1,5 @@
-// The recorder of one document, with all its parts.
+// The recorder of one document, with all its parts. All modules are made and started here. Hooks hide: `Function.prototype.toString` shows the browser's text
+// of a replaced function.
 
 import { each, findItem, keep } from './core/lists.js';
 import { withoutMarks } from './core/marks.js';
@@ -53,6 +54,7 @@ import { Timers } from './tasks/timers.js';
 import { documentOf } from './core/things.js';
 import { numberOfFrame } from './frames.js';
 
+/** Made by main.js for the top document and each frame of its origin. */
 class Page {
   /**
    * @param {import('./types').PageWindow} window
@@ -134,7 +136,10 @@ class Page {
     this.shadows = new Shadows(this);
   }
 
-  /** @param {'parser'|undefined} maker of what is in it by now */
+  /**
+   * Starts all parts: from now on their hooks are in place. `main.js` calls it before any script of the document.
+   * @param {'parser'|undefined} maker of what is in it by now
+   */
   start(maker) {
     const { recording } = this;
     recording.pages = keep(recording.pages, (page) => page.window !== this.window);

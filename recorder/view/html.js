@@ -1,5 +1,6 @@
 'use strict';
-// The page of the view as one text that needs nothing else.
+// The page of the view as one text that needs nothing else. It loads no external resources: its own content policy (CSP) forbids that, and any script (XSS) of
+// a recorded page.
 
 const fs = require('node:fs');
 const path = require('node:path');
@@ -100,7 +101,10 @@ function partsOfPage() {
   return parts;
 }
 
-/** @param {ViewModel} model */
+/**
+ * The HTML of a view: its model is in it as JSON, beside its style and its script.
+ * @param {ViewModel} model
+ */
 function renderPage(model) {
   const { style, script, policy } = partsOfPage();
   return `<!doctype html>

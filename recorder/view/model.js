@@ -28,6 +28,7 @@ const MOST_TO_EXPLAIN = 300;
 const SHORTEST_WORDS = 12;
 const KINDS = ['variable', 'element', 'handler'];
 
+/** Made by view.js for each view. */
 class Model {
   /**
    * @param {import('../list/types').Report} report

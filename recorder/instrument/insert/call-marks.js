@@ -1,5 +1,6 @@
 'use strict';
-// Marks calls, spreads and literals: what a method of an array, a map or an element touches, and what `Object.keys` and others read of their arguments.
+// Marks calls, spreads and literals: what a method of an array, a map or an element touches, and what `Object.keys` and others read of their arguments. Methods
+// such as `push`, `sort` and `Map.set`, spread arguments (`f(...list)`), array and object literals, tagged templates.
 
 const { quote } = require('../marks/quote.js');
 const { nothing } = require('../walk/walker.js');

@@ -1,4 +1,4 @@
-// The browser's own functions, taken before any script of the page can change them.
+// The browser's own functions, taken before any script of the page can change them. Getters and methods of the DOM, as `addEventListener`, `querySelector`.
 
 import { apply, getOwnPropertyDescriptor } from './taken.js';
 import { takeFirst } from './lists.js';

@@ -1,4 +1,5 @@
-// What a script sets at an element, by a property or an attribute: what the element loads, and handler attributes.
+// What a script sets at an element, by a property or an attribute: what the element loads, and handler attributes. `img.src = ..`, `setAttribute('src', ..)`,
+// `script.src`, `link.href`, `integrity`.
 
 import { each, hasItem } from '../core/lists.js';
 import { replaceGetter, replaceMethod, replaceProperty } from '../core/replacing.js';
@@ -20,6 +21,7 @@ const XLINK = 'http://www.w3.org/1999/xlink';
 /** What a script with it would lack is its copy, which has another text: it is not set. */
 const INTEGRITY = 'integrity attributes that scripts set, dropped';
 
+/** One for each document: `page.attributes`. */
 class Attributes {
   /** @param {import('../types').Page} page */
   constructor(page) {

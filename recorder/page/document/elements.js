@@ -1,4 +1,4 @@
-// Elements: their numbers, their declarations, and the elements that stand for others in a dispatch.
+// Elements: their numbers, their declarations, and the elements that stand for others in a dispatch. Their tag, id, classes and source, as the view shows them.
 
 import { hasItem, keep, mapped } from '../core/lists.js';
 import { fits, sliceOf, withoutFragment } from '../core/strings.js';
@@ -18,6 +18,7 @@ const LONGEST_ADDRESS = 2000;
 /** @typedef {import('../types').Target} Target */
 /** @typedef {import('../types').Moment} Moment */
 
+/** One for each document: `page.elements`. */
 class Elements {
   /** @param {import('../types').Page} page */
   constructor(page) {

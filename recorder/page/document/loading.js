@@ -1,4 +1,5 @@
-// The events of a document's loading, and the load events of its elements.
+// The events of a document's loading, and the load events of its elements. `readystatechange`, `DOMContentLoaded` (after deferred scripts), `load`, `pageshow`,
+// `beforeunload`, and `load` and `error` (`onload`, `onerror`) of images, scripts, style sheets and frames.
 
 import { each, hasItem, joined, positionOf } from '../core/lists.js';
 import { fits } from '../core/strings.js';
@@ -15,6 +16,7 @@ const LEAVING = ['beforeunload', 'pagehide', 'visibilitychange', 'unload'];
 /** @typedef {import('../types').NewDispatch} NewDispatch */
 /** @typedef {import('../events/dispatches.js').EventDispatch} EventDispatch */
 
+/** One for each document: `page.loading`. */
 class Loading {
   /** @param {import('../types').Page} page */
   constructor(page) {
@@ -97,7 +99,10 @@ class Loading {
     return event.type === 'load' || event.type === 'error' ? this.#beginOfElement(dispatch) : false;
   }
 
-  /** @param {EventDispatch} dispatch */
+  /**
+   * Begins `readystatechange`, `DOMContentLoaded` or `load` of the document or its window, if the dispatch is one. Returns whether it is.
+   * @param {EventDispatch} dispatch
+   */
   #beginOfDocument(dispatch) {
     const { event } = dispatch;
     const state = this.page.document.readyState;
@@ -175,6 +180,7 @@ class Loading {
   }
 
   /**
+   * Begins the dispatch that the rules know as the end of parsing (`dcl`) or of loading (`load`), after what it waits for.
    * @param {NewDispatch} dispatch
    * @param {'dcl'|'load'} end
    */

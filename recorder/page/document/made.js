@@ -9,6 +9,7 @@ const LOADS_AT_ONCE = 'img, image, audio, video';
 /** `nodeType` of a fragment. */
 const FRAGMENT = 11;
 
+/** One for each document: `page.made`. */
 class Made {
   /** @param {import('../types').Page} page */
   constructor(page) {

@@ -1,4 +1,5 @@
-// Custom elements that the parser makes: in which action their reactions run, while no code is on the stack.
+// Custom elements that the parser makes: in which action their reactions run, while no code is on the stack. `connectedCallback`, `attributeChangedCallback`
+// and constructors of web components.
 
 import { each } from '../core/lists.js';
 import { replaceMethod } from '../core/replacing.js';
@@ -24,6 +25,7 @@ const FOLLOWS = 4;
  * @typedef {{name: string, function: string|undefined, moment: Moment|null, isBefore: boolean, former: Former|null}} Reaction
  */
 
+/** One for each document: `page.reactions`. */
 class Reactions {
   /** @param {import('../types').Page} page */
   constructor(page) {

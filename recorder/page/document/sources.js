@@ -14,6 +14,7 @@ const BY_KIND = /^(link|input|image)$/;
  * @typedef {{number: number, inner: number, isPassing?: boolean, isFirst?: boolean, isOver?: boolean}} Load
  */
 
+/** One for each document: `page.sources`. */
 class Sources {
   /** @param {import('../types').Page} page */
   constructor(page) {

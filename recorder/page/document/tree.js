@@ -1,4 +1,5 @@
-// Changes of a document's tree, as a mutation observer reports them. What changes while no script runs is the parser's: each element is a parse step.
+// Changes of a document's tree, as a mutation observer reports them. What changes while no script runs is the parser's: each element is a parse step. Nodes
+// that are added to the DOM, moved or removed from it, and attributes that change.
 
 import { each, findItem, joined } from '../core/lists.js';
 import { Set, WeakMap, apply } from '../core/taken.js';

@@ -30,6 +30,7 @@ const DISPATCHERS = [
 /** Elements that are declared where a script inserts them, as their kind is not known before. */
 const DECLARED_AT_INSERTION = new Set(['script', 'iframe', 'frame', 'link', 'object', 'embed']);
 
+/** One for each document: `page.calls`. */
 class Calls {
   /** @param {import('../types').Page} page */
   constructor(page) {

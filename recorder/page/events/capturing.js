@@ -1,4 +1,5 @@
 // The recorder's own listeners, which see each dispatch of a type begin before any handler of the page runs; and dispatches that no handler hears.
+// `stopPropagation` and `stopImmediatePropagation` of the page hide no event from them.
 
 import { each, valuesOf } from '../core/lists.js';
 import { Set, apply } from '../core/taken.js';
@@ -13,6 +14,7 @@ const ALWAYS_RECORDED = [
 /** `nodeType` of a shadow root. */
 const FRAGMENT = 11;
 
+/** One for each document: `page.capturing`. */
 class Capturing {
   /** @param {import('../types').Page} page */
   constructor(page) {

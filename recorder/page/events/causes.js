@@ -1,4 +1,5 @@
-// Calls and changes that queue an event: what opens and closes, the full screen, scrolling, selections, storage of another frame.
+// Calls and changes that queue an event: what opens and closes, the full screen, scrolling, selections, storage of another frame. `scrollTo`, `showModal`,
+// popovers, `<details>`, `requestFullscreen`, `select()`, `localStorage.setItem` in another frame.
 
 import { each, findItem, keep, mapped } from '../core/lists.js';
 import { replaceMethod, replaceProperty } from '../core/replacing.js';
@@ -6,6 +7,7 @@ import { fits } from '../core/strings.js';
 import { apply } from '../core/taken.js';
 import { isElement } from '../core/things.js';
 
+/** One for each document: `page.causes`. */
 class Causes {
   /** @param {import('../types').Page} page */
   constructor(page) {

@@ -1,4 +1,5 @@
-// Handlers: their slots, and listeners. A registration is a write of a slot of its target.
+// Handlers: their slots, and listeners. A registration is a write of a slot of its target. `addEventListener`, `removeEventListener`, `once`, `signal`: each
+// listener is wrapped.
 
 import { each, findItem, keysOf, valuesOf } from '../core/lists.js';
 import { replaceMethod } from '../core/replacing.js';
@@ -22,6 +23,7 @@ import { spellName } from '../log/spelling.js';
  * @typedef {{now: Map<Listener, Registration>, ever: WeakMap<Listener, Registration>}} Registered
  */
 
+/** One for each document: `page.handlers`. */
 class Handlers {
   /** @param {import('../types').Page} page */
   constructor(page) {

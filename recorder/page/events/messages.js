@@ -1,5 +1,6 @@
 // Messages: `postMessage` of windows, of ports and of broadcast channels. Each message has a plain element, at which its listeners are handlers: in
-// version 2 its sender makes it, so that the message comes after its sender and no rule joins it with another one.
+// version 2 its sender makes it, so that the message comes after its sender and no rule joins it with another one. Also those of web workers, whose own code is
+// not recorded.
 
 import { each, findItem, hasItem, keep, takeFirst } from '../core/lists.js';
 import { putConstructor, replaceConstructor, replaceMethod } from '../core/replacing.js';
@@ -11,6 +12,7 @@ const tagOf = Object.prototype.toString;
 /** @typedef {import('../types').PageWindow} PageWindow */
 /** @typedef {import('./dispatches.js').EventDispatch} EventDispatch */
 
+/** One for each document: `page.messages`. */
 class Messages {
   /** @param {import('../types').Page} page */
   constructor(page) {

@@ -1,4 +1,5 @@
 // Steps of the page's address (history): `navigate` comes before each, at once for a change of the fragment (hash), and for a way back when it is made.
+// `history.back`, `popstate`, `hashchange`, and `intercept` of the Navigation API.
 
 import { each, findItem, keep, mapped, positionOf } from '../core/lists.js';
 import { replaceMethod } from '../core/replacing.js';
@@ -16,6 +17,7 @@ import { isPlainObject } from '../core/things.js';
  * @typedef {{moment: Moment|null, key?: string}} Step
  */
 
+/** One for each document: `page.navigations`. */
 class Navigations {
   /** @param {import('../types').Page} page */
   constructor(page) {

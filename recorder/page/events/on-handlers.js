@@ -19,6 +19,7 @@ const MARKED = /^(\v|\/\*\v\f<\*\/);?__er\.handlerBegins\(/;
 /** @typedef {import('../types').Target} Target */
 /** @typedef {import('../types').Method} Method */
 
+/** One for each document: `page.onHandlers`. */
 class OnHandlers {
   /** @param {import('../types').Page} page */
   constructor(page) {

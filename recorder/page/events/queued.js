@@ -1,5 +1,5 @@
 // Events that a call or a user act queues for a later task. Each is recorded as a `fire` at a stand-in element (docs/recording.md), which is
-// created in the action that caused the event: so rule 14 puts the cause before the event.
+// created in the action that caused the event: so rule 14 puts the cause before the event. Also `unhandledrejection`, whose cause is who rejected the promise.
 
 import { findItem, keep, takeFirst } from '../core/lists.js';
 import { Map, Set, WeakMap } from '../core/taken.js';
@@ -29,6 +29,7 @@ const FRAMES_OF_A_CALL = 3;
  * @typedef {Cause & {type: string|null, isIt: (event: any) => boolean}} Expected `isIt` knows the class of its event
  */
 
+/** One for each document: `page.queued`. */
 class Queued {
   /** @param {import('../types').Page} page */
   constructor(page) {

@@ -3,6 +3,7 @@
 import { settings } from '../core/settings.js';
 import { Set, WeakMap, WeakSet } from '../core/taken.js';
 
+/** The base of `Recording`. */
 class Shared {
   constructor() {
     /**

@@ -1,5 +1,5 @@
 // Scripts that are declared before a script inserts them, as by a handler that was set, or because they were data: they start at the insertion. So do the
-// loads of style sheets.
+// loads of style sheets. These are injected scripts (`appendChild`).
 
 import { fits } from '../core/strings.js';
 import { Set, WeakSet, apply } from '../core/taken.js';
@@ -8,6 +8,7 @@ import { MADE_OF_TEXT } from '../log/log.js';
 /** Elements that load what they have only once they are in the document, and whose kind is in an attribute. */
 const LOADS_INSERTED = /^(link|object|embed|input)$/;
 
+/** One for each document: `page.insertions`. */
 class Insertions {
   /** @param {import('../types').Page} page */
   constructor(page) {

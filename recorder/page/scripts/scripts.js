@@ -14,6 +14,7 @@ const TEXT = 3;
  * @typedef {[name: string, place: number]} FunctionOfScript
  */
 
+/** One for each document: `page.scripts`. */
 class Scripts {
   /** @param {import('../types').Page} page */
   constructor(page) {
@@ -93,7 +94,7 @@ class Scripts {
   }
 
   /**
-   * Writes the begin of a run.
+   * Writes that the script of an element runs, after what its kind comes after.
    * @param {Element|null} element
    * @param {number} number
    * @param {number} [site]

@@ -1,4 +1,5 @@
-// Functions that the browser is given and calls later, in tasks of their own that nothing else asks for.
+// Functions that the browser is given and calls later, in tasks of their own that nothing else asks for. `scheduler.postTask`, `navigator.locks`, geolocation,
+// `canvas.toBlob`, view transitions, drag and drop.
 
 import { each, joined } from '../core/lists.js';
 import { replaceGetter, replaceMethod } from '../core/replacing.js';
@@ -35,6 +36,7 @@ const OF_TRANSITION = ['updateCallbackDone', 'ready', 'finished'];
  * @typedef {{name: string, number: number, event: TraceEvent|null, ends: Several[]}} Asked
  */
 
+/** One for each document: `page.callbacks`. */
 class Callbacks {
   /** @param {import('../types').Page} page */
   constructor(page) {

@@ -1,4 +1,5 @@
-// What is opened or asked and answers with events, as a request does: EventSource, WebSocket, FileReader and IndexedDB.
+// What is opened or asked and answers with events, as a request does: EventSource, WebSocket, FileReader and IndexedDB. Incoming messages of a socket or a
+// stream, and `success` and `error` of a database request, come after the call.
 
 import { each, keep } from '../core/lists.js';
 import { replaceConstructor, replaceMethod } from '../core/replacing.js';
@@ -19,6 +20,7 @@ const ASKERS = [
   ['IDBCursor', ['delete', 'update']],
 ];
 
+/** One for each document: `page.connections`. */
 class Connections {
   /** @param {import('../types').Page} page */
   constructor(page) {

@@ -1,4 +1,5 @@
-// Jobs: the reactions of promises, what `queueMicrotask` gets, and the code after an `await`. A job belongs to the action after which it runs.
+// Jobs: the reactions of promises, what `queueMicrotask` gets, and the code after an `await`. A job belongs to the action after which it runs. An async
+// function goes on (resumes) in a microtask.
 
 import { joined, keep } from '../core/lists.js';
 import { apply } from '../core/taken.js';
@@ -14,6 +15,7 @@ import { TURNS_OF_A_CHECKPOINT } from '../recording/recording.js';
  * @typedef {{v: unknown, site?: number, moment: Moment|null, task?: number, others?: (Moment|null)[], why?: string, makes?: object, isRejected?: boolean}} Asked
  */
 
+/** One for each document: `page.jobs`. */
 class Jobs {
   /** @param {import('../types').Page} page */
   constructor(page) {

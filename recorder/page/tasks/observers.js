@@ -1,4 +1,5 @@
-// Observers: a mutation observer's callback is a job, those of the others are tasks. Each comes after the call of `observe()`.
+// Observers: a mutation observer's callback is a job, those of the others are tasks. Each comes after the call of `observe()`. MutationObserver,
+// IntersectionObserver, ResizeObserver, PerformanceObserver; FinalizationRegistry.
 
 import { each, findItem, joined, keep } from '../core/lists.js';
 import { putConstructor, replaceMethod } from '../core/replacing.js';
@@ -16,6 +17,7 @@ const OF_ALL = new Set(['PerformanceObserver', 'ReportingObserver']);
  * @typedef {{name: string, handler: number, asked: import('./jobs.js').Asked, type: string, told: {target: any, moment: Moment}[], hold: import('../types').Held|undefined, last?: Moment}} About
  */
 
+/** One for each document: `page.observers`. */
 class Observers {
   /** @param {import('../types').Page} page */
   constructor(page) {

@@ -1,4 +1,5 @@
-// Calls that ask for a job: `then`, `queueMicrotask`, and promises of several promises, whose reactions come after what has settled each.
+// Calls that ask for a job: `then`, `queueMicrotask`, and promises of several promises, whose reactions come after what has settled each. `Promise.all`,
+// `allSettled`, `any`.
 
 import { each, findItem, joined } from '../core/lists.js';
 import { replaceMethod } from '../core/replacing.js';
@@ -24,6 +25,7 @@ const MOST_LINKS = 20;
 /** @param {unknown} given */
 const isNativeFunction = (given) => typeof given === 'function' && sliceOf(apply(functionText, given, []), -16) === ' [native code] }';
 
+/** One for each document: `page.promises`. */
 class Promises {
   /** @param {import('../types').Page} page */
   constructor(page) {

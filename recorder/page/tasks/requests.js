@@ -1,4 +1,5 @@
-// XMLHttpRequest (Ajax) and fetch: requests, their replies, and the promise of a fetch, also of one that a signal aborts.
+// XMLHttpRequest (Ajax) and fetch: requests, their replies, and the promise of a fetch, also of one that a signal aborts. When the promise of a `fetch` is
+// resolved or rejected, and who reads the body (`json()`, `text()`); `readystatechange`, `load` of an XHR.
 
 import { each } from '../core/lists.js';
 import { replaceMethod } from '../core/replacing.js';
@@ -17,6 +18,7 @@ const BODY_CALLS = ['json', 'text', 'arrayBuffer', 'blob', 'formData', 'bytes'];
  *   opening?: {last: import('../types').Moment|null}, former?: {last: import('../types').Moment|null}}} Request
  */
 
+/** One for each document: `page.requests`. */
 class Requests {
   /** @param {import('../types').Page} page */
   constructor(page) {

@@ -14,6 +14,7 @@ import { isHarmless, rankOfVerdict } from './replays.js';
 const IDLE = 'late handlers that changed nothing recorded';
 
 /**
+ * Whether the filter shows a race: its text is compared with `searched` (model.js), the sentence and the location of a race. A reload loses it.
  * @param {Race} race
  * @param {string} kind
  * @param {string} text
@@ -37,11 +38,20 @@ function filtered() {
   });
 }
 
-/** @param {Line} line */
+/**
+ * How many races a line has.
+ * @param {Line} line
+ */
 const sizeOf = ({ groups }) => groups.reduce((sum, { size }) => sum + size, 0);
-/** @param {Line} line */
+/**
+ * The number of its first race in the trace.
+ * @param {Line} line
+ */
 const firstOf = ({ groups }) => groups.reduce((least, { first }) => Math.min(least, first.number), Infinity);
-/** @type {{[order: string]: (a: Line, b: Line) => number}} */
+/**
+ * How two lines are compared in each order that a reader can choose; if they are equal, by the next one.
+ * @type {{[order: string]: (a: Line, b: Line) => number}}
+ */
 const ORDERS = {
   verdict: (a, b) => rankOfVerdict(a) - rankOfVerdict(b) || ORDERS.looks(a, b),
   looks: (a, b) => a.order - b.order,

@@ -25,6 +25,7 @@ function raceBox(race) {
 }
 
 /**
+ * A group of races, folded; inside are its first race and the others.
  * @param {Group} group
  * @param {ShownProblem|undefined} problem if the group has its words
  * @param {Line|undefined} line if the group is all of it

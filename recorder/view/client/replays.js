@@ -1,4 +1,4 @@
-// Races that were run again in the other order: their verdicts, the differences, and the ends of both runs.
+// Races that were run again in the other order: their verdicts, the differences, and the ends of both runs. With screenshots of both runs.
 
 import { counted, foldable, make, makeSvg } from './elements.js';
 import { model, raceOf } from './model.js';
@@ -116,7 +116,10 @@ function foldedTable(differences, words) {
 /** @param {string} text */
 const asSentence = (text) => `${text[0].toUpperCase()}${text.slice(1)}.`;
 
-/** @param {Race} race */
+/**
+ * What a replay found of a race, as elements; none if it was not replayed.
+ * @param {Race} race
+ */
 function replayBox(race) {
   const replay = replayOf.get(race.number);
   if (!replay) return [];
