@@ -160,6 +160,7 @@ class Handlers {
   #registrationOf(target, type, listener, { now, ever }) {
     const former = ever.get(listener);
     if (former) return former;
+    /** @type {Registration} */
     const registration = { handler: 0, isOnce: false, next: 0, wrapped: this.#wrapFunction(target, type, listener, now, () => registration) };
     ever.set(listener, registration);
     return registration;
