@@ -1,5 +1,5 @@
 'use strict';
-// Whether er_page replays races that nobody has requested: only if no server gets a request again.
+// Whether er_page replays races that nobody has requested, and for how long: only if no server gets a request again, and the page takes little time.
 
 const { shown } = require('./common/shown.js');
 const { programState } = require('./races/program.js');
@@ -8,6 +8,10 @@ const { programState } = require('./races/program.js');
 
 /** How many races are replayed by themselves. */
 const MOST_BY_ITSELF = 5;
+/** They end after so many milliseconds, with what was found by then. */
+const LONGEST_BY_ITSELF = 60000;
+/** A recorded run that took longer, in milliseconds, is not replayed: each replay needs several runs that take as long. */
+const LONGEST_RUN = 20000;
 /** Connections over which a server gets more than a request, by the constructor that the page calls. */
 const CONNECTIONS = /^(EventSource|WebSocket)$/;
 
@@ -23,12 +27,20 @@ function mayReplayByItself({ isReplayed, isNeverReplayed, runs, isHeaded, userDa
  * Why a recorded page is not run again by itself, in words; '' if it is.
  * @param {import('./recording/recorder.js').Recorder} recorder
  */
-function whyNotByItself({ responses, intake }) {
+function whyNotByItself({ responses, intake, startTime, endTime }) {
   const opened = intake.names.flatMap(({ kind, method = '' }) => (kind === 'request' && CONNECTIONS.test(method) ? [`a connection of ${method === 'WebSocket' ? 'a' : 'an'} ${method}`] : []));
   const again = [...new Set([...responses?.lacking || [], ...opened])];
-  if (!again.length) return '';
+  if (!again.length) return whyTooLong(endTime - startTime);
   const others = again.length > 1 ? `, and ${again.length - 1} more` : '';
   return `races are not replayed: each replay would send again: ${shown(again[0])}${others}; --replay does it`;
 }
 
-module.exports = { MOST_BY_ITSELF, mayReplayByItself, whyNotByItself };
+/**
+ * Why a run is too long, in words, or ''.
+ * @param {number} length in milliseconds
+ */
+function whyTooLong(length) {
+  return length > LONGEST_RUN ? `races are not replayed: a run of the page takes ${Math.round(length / 1000)} s, and each replay needs several; --replay does it` : '';
+}
+
+module.exports = { MOST_BY_ITSELF, LONGEST_BY_ITSELF, mayReplayByItself, whyNotByItself };

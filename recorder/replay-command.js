@@ -12,7 +12,7 @@ const { stoppable } = require('./common/stoppable.js');
 const { answersAtOnce, programState } = require('./races/program.js');
 const { RecordingFault } = require('./recording/recorder.js');
 const { Replay, isStop } = require('./replay/replay.js');
-const { MOST_BY_ITSELF } = require('./replay-by-itself.js');
+const { MOST_BY_ITSELF, LONGEST_BY_ITSELF } = require('./replay-by-itself.js');
 const { verdictInWords, verdictOf, worstOf, orderOfResults, groupInWords, plain, VERDICTS } = require('./replay/verdict.js');
 const { ReplayProgress } = require('./replay-progress.js');
 const { besides, writePage } = require('./view.js');
@@ -143,17 +143,34 @@ class ReplayCommand {
     }
     const replay = new Replay(this.recorder, this.options, this.traceFile, this.report);
     let status = STATUS.ok;
+    const limit = this.limit(replay);
     try {
       await stoppable(() => replay.interrupt(), () => this.replayEach(replay));
     } catch (fault) {
       if (!(fault instanceof RecordingFault)) throw fault;
-      this.complain(fault.message);
-      status = fault.status;
+      const isOver = limit.isReached && isStop(fault);
+      this.complain(isOver ? `replays ended after ${LONGEST_BY_ITSELF / 1000} s, with ${this.results.length} of ${this.numbers().length} races done; --replay does all` : fault.message);
+      status = isOver ? STATUS.ok : fault.status;
     } finally {
+      limit.end();
       await replay.close();
     }
     await this.printResults(replay);
     return status;
+  }
+
+  /**
+   * Ends replays that nobody has requested after a time.
+   * @param {Replay} replay
+   */
+  limit(replay) {
+    const limit = { isReached: false, end: () => {} };
+    if (this.options.isReplayed || this.options.name !== 'er_page') return limit;
+    const timer = setTimeout(() => {
+      limit.isReached = true;
+      replay.interrupt();
+    }, LONGEST_BY_ITSELF);
+    return Object.assign(limit, { end: () => clearTimeout(timer) });
   }
 
   /**
