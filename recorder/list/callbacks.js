@@ -8,8 +8,8 @@ const { UNSEEN } = require('../races/words.js');
 /** @typedef {import('./types').Place} Place */
 /** @typedef {import('../races/actions.js').Action} Action */
 /**
- * What was requested, where, and by way of which place in a library.
- * @typedef {{function?: string, place?: Place|null, way?: Place}} Asked
+ * What was requested, where, and by way of which place in a library; `ready` is where the page passed a callback to jQuery's `ready`, which set a timeout.
+ * @typedef {{function?: string, place?: Place|null, way?: Place, ready?: Place}} Asked
  */
 
 /** @type {{[why: string]: [what: string, asked: string]}} */
@@ -22,6 +22,12 @@ const INTERVALS = {
 const MOST_STEPS = 20;
 /** How an action comes from the one that requested it (races/actions.js). */
 const REQUESTED = new Set(['asked for by', 'registered by', 'called by', 'goes on from']);
+
+/**
+ * What a library has set for a callback that the page passed to it is where the page did.
+ * @param {Asked|undefined} facts @returns {Asked|undefined}
+ */
+const passed = (facts) => (facts?.ready ? { place: facts.ready } : facts);
 
 class Callbacks {
   /**
@@ -45,7 +51,7 @@ class Callbacks {
     switch (word) {
       case 'parse': return `parser at ${this.words.element(b)}`;
       case 'exec': return this.script(a);
-      case 'timer': return this.asked('timeout', 'scheduled', names.timeouts[a], number);
+      case 'timer': return this.timeout(names.timeouts[a], number);
       case 'tick': case 'anim': return this.tick(a, number);
       case 'reply': return this.reply(b, number);
       case 'message': return this.asked('message', 'posted', names.messages?.[a], number);
@@ -95,13 +101,22 @@ class Callbacks {
   requestOf({ words: [word, a, b, c] }) {
     const { names } = this;
     switch (word) {
-      case 'timer': return names.timeouts[a];
-      case 'tick': case 'anim': return { ...names.timeouts[Number(a) - FIRST_FOREIGN_TIMEOUT], ...names.intervals[a] };
+      case 'timer': return passed(names.timeouts[a]);
+      case 'tick': case 'anim': return passed({ ...names.timeouts[Number(a) - FIRST_FOREIGN_TIMEOUT], ...names.intervals[a] });
       case 'reply': return names.requests[b];
       case 'message': return names.messages?.[a];
       case 'run': return names.handlers[c];
       default: return undefined;
     }
+  }
+
+  /**
+   * A timeout, or a callback of the page that jQuery's `ready` runs in one.
+   * @param {Asked|undefined} facts @param {number} action
+   */
+  timeout(facts, action) {
+    if (facts?.ready) return this.asked("callback of jQuery's ready", 'registered', { place: facts.ready }, action);
+    return this.asked('timeout', 'scheduled', facts, action);
   }
 
   /**
@@ -118,7 +133,7 @@ class Callbacks {
    */
   tick(number, action) {
     const facts = this.names.intervals[number] || {};
-    if (!facts.why) return this.asked('timeout', 'scheduled', { ...this.names.timeouts[Number(number) - FIRST_FOREIGN_TIMEOUT], ...facts }, action);
+    if (!facts.why) return this.timeout({ ...this.names.timeouts[Number(number) - FIRST_FOREIGN_TIMEOUT], ...facts }, action);
     const [what, verb] = INTERVALS[facts.why] || [`callback of ${shown(facts.why)}`, 'requested'];
     return this.asked(what, verb, facts, action);
   }

@@ -31,6 +31,7 @@ export interface Facts {
   method?: string;
   place?: Place;
   way?: Place;
+  ready?: Place;
 }
 
 /** What is known of an object, a closure or a module. */

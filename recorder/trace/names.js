@@ -13,7 +13,7 @@ const { namedFile } = require('./named-files.js');
 /**
  * @typedef {[file: number, line: number, column: number]} Place
  * @typedef {import('./log/facts.js').Fact} Fact
- * @typedef {Partial<Omit<Fact, 'kind'|'number'>> & {place?: Place, way?: Place}} Facts what is known of a number
+ * @typedef {Partial<Omit<Fact, 'kind'|'number'|'ready'>> & {place?: Place, way?: Place, ready?: Place}} Facts what is known of a number
  * @typedef {{[number: string]: Facts}} List by the number
  * @typedef {{made?: string, name?: string, scope?: string, text?: string, place?: Place, module?: string, field?: number, windowOf?: number}} ObjectFacts
  * @typedef {{own?: Place, way?: Place}} PlacesOfStack
@@ -87,12 +87,21 @@ class Names {
    * Takes a fact of the log.
    * @param {Fact} fact
    */
-  take({ kind, number, ...facts }) {
+  take({ kind, number, ready, ...facts }) {
     const list = LISTS.get(kind);
     if (kind === 'object') this.told.set(number, facts);
     else if (kind === 'written') this.lines.written.set(String(number), facts.value || '');
     else if (kind === 'stack') this.stacks.set(String(number), (facts.places || '').split('\n'));
-    else if (list) Object.assign(this.entry(list, String(number)), facts);
+    else if (list) Object.assign(this.entry(list, String(number)), facts, this.readyAt(ready));
+  }
+
+  /**
+   * Where the page passed jQuery the callback of one of its timeouts.
+   * @param {string|undefined} ready the place, as the log has it
+   */
+  readyAt(ready) {
+    const at = this.resolve(ready);
+    return at ? { ready: at } : {};
   }
 
   /**

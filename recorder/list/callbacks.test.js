@@ -1,0 +1,38 @@
+'use strict';
+// What the list calls the callbacks of a race's two sides.
+
+const assert = require('node:assert');
+const { test } = require('node:test');
+const { judgeLines } = require('../test/list-support.js');
+const { Listing } = require('./listing.js');
+const { linesOf } = require('./outputs.js');
+const { Problems } = require('./problems.js');
+
+/** @typedef {import('./types').Names} Names */
+
+/** @type {Names} */
+const NAMES = {
+  files: [{ address: 'http://localhost/page.html', text: '<p>\n$(function () {\n  total = 1;\n' }, { address: 'http://localhost/jquery.js', text: '\n', isLibrary: true }],
+  elements: {}, documents: {}, handlers: {}, timeouts: {}, intervals: {}, requests: {}, dispatches: {}, objects: {}, places: {}, values: {}, functions: {},
+};
+
+/**
+ * The lines of the list for a trace.
+ * @param {string[]} lines
+ * @param {Partial<Names>} facts
+ */
+async function listOf(lines, facts) {
+  const { text, report } = await judgeLines(lines);
+  return linesOf(new Listing([new Problems(text, { ...NAMES, ...facts }, report)], null));
+}
+
+test('a timeout that jQuery sets for a callback of its ready is called so, with the place of the page\'s call', async () => {
+  const lines = ['parse 0 1 inline', 'exec 1', 'set 2 9', 'set 1 0', 'timer 1', 'w var 0 total', 'timer 2', 'w var 0 total'];
+  /** @type {Partial<Names>} */
+  const facts = { places: { 4: [0, 2, 1], 5: [1, 1, 1], 7: [1, 1, 9] }, timeouts: { 1: { place: [1, 1, 1], function: 'process', ready: [0, 2, 1] }, 2: { place: [0, 2, 1] } } };
+  const [head, first] = await listOf(lines, facts);
+  assert.match(head, /^page\.html:2 {2}/);
+  assert.match(first, / callback of jQuery's ready, registered at page\.html:2:1$/);
+  const { ready, ...timeout } = facts.timeouts?.[1] || {};
+  assert.match((await listOf(lines, { ...facts, timeouts: { ...facts.timeouts, 1: timeout } }))[1], / timeout process, scheduled at jquery\.js:1:1$/, String(ready));
+});
