@@ -18,6 +18,11 @@ const INTERVALS = {
   requestIdleCallback: ['idle callback', 'requested'], 'import()': ['module', 'requested'],
 };
 
+/** Where a callback was requested, and, if that is in a library, the page's own place. */
+const ASKED = /, [a-z]+ at (\S+)(?: \((?:from (\S+)|via \S+)\))?$/;
+/** Events that report on the file of their element. */
+const AT_FILE = new Set(['load', 'error']);
+
 /** So many requests are followed back from an action to code of the page's own. */
 const MOST_STEPS = 20;
 /** How an action comes from the one that requested it (races/actions.js). */
@@ -32,10 +37,12 @@ const passed = (facts) => (facts?.ready ? { place: facts.ready } : facts);
 class Callbacks {
   /**
    * @param {import('../races/words.js').Words} words
+   * @param {import('./element-words.js').ElementWords} elements
    * @param {(place: Place|null|undefined) => string} placeInWords
    */
-  constructor(words, placeInWords) {
+  constructor(words, elements, placeInWords) {
     this.words = words;
+    this.elements = elements;
     this.names = /** @type {import('./types').Names} */ (words.names);
     this.placeInWords = placeInWords;
   }
@@ -49,7 +56,8 @@ class Callbacks {
     const { names } = this;
     const [word, a, b] = action.words;
     switch (word) {
-      case 'parse': return `parser at ${this.words.element(b)}`;
+      case 'parse': return `parser at ${this.elements.named(b)}`;
+      case 'eload': return `load of ${this.elements.of(b)}`;
       case 'exec': return this.script(a);
       case 'timer': return this.timeout(names.timeouts[a], number);
       case 'tick': case 'anim': return this.tick(a, number);
@@ -166,9 +174,44 @@ class Callbacks {
     if (facts.type === 'await') return this.asked('code after await', 'waiting', { ...facts, function: '' }, action.number);
     if (facts.type === 'job') return this.asked('promise reaction', 'set', facts, action.number);
     const place = facts.place || this.names.elements[facts.target ?? '']?.place;
-    const of = action.dispatch?.words[0] === 'reply' ? ` of ${this.request(action.dispatch.words[2])}` : '';
-    return this.asked(`${shown(facts.type || 'event')} handler${of}`, 'registered', { ...facts, place }, action.number);
+    return this.asked(`${shown(facts.type || 'event')} handler${this.ofReported(action)}`, 'registered', { ...facts, place }, action.number);
+  }
+
+  /**
+   * What a handler hears of, as of a load: a request, or an element with a file.
+   * @param {Action} action
+   */
+  ofReported({ dispatch }) {
+    const [word, , number, type] = dispatch?.words || [];
+    if (word === 'reply') return ` of ${this.request(number)}`;
+    const isOfFile = word === 'eload' || (AT_FILE.has(type) && (word === 'fire' || word === 'inline'));
+    return isOfFile && this.names.elements[number]?.source ? ` of ${this.elements.named(number)}` : '';
+  }
+
+  // ---- in sentences
+
+  /**
+   * What runs in an action, as the subject of a sentence: without where it was requested.
+   * @param {number} number @param {boolean} hasPlace whether that place is added all the same
+   */
+  subject(number, hasPlace = false) {
+    const { words: [word, a] } = this.words.actions.list[this.words.actions.list[number].first];
+    const text = word === 'exec' ? this.words.script(a) : this.of(number).replace(ASKED, (whole, at, own) => (hasPlace ? ` at ${own || at}` : ''));
+    return /^(?:DOMContentLoaded|code whose|the |an? )/.test(text) ? text : `the ${text}`;
+  }
+
+  /**
+   * The subjects of a sentence about two sides, which are different. The second is the first in the sentence.
+   * @param {number} one an action @param {number} other an action
+   * @returns {[string, string]}
+   */
+  subjects(one, other) {
+    for (const hasPlace of [false, true]) {
+      const [first, second] = [this.subject(one, hasPlace), this.subject(other, hasPlace)];
+      if (first !== second) return [first, second];
+    }
+    return ['another one', `one run of ${this.subject(one)}`];
   }
 }
 
-module.exports = { Callbacks };
+module.exports = { Callbacks, ASKED };

@@ -36,3 +36,15 @@ test('a timeout that jQuery sets for a callback of its ready is called so, with 
   const { ready, ...timeout } = facts.timeouts?.[1] || {};
   assert.match((await listOf(lines, { ...facts, timeouts: { ...facts.timeouts, 1: timeout } }))[1], / timeout process, scheduled at jquery\.js:1:1$/, String(ready));
 });
+
+test('a handler that hears of a file is called by it, and runs of one callback are told apart', async () => {
+  const lines = ['parse 0 1 inline', 'exec 1', 'new 0 2 async', 'new 0 3 async', 'on 1', 'on 2', 'exec 2', 'exec 3', 'fire 1 2 load', 'run 1 0 1', 'w var 0 total', 'close 1', 'fire 2 3 load', 'run 2 0 2', 'w var 0 total', 'close 2'];
+  /** @type {Partial<Names>} */
+  const facts = { elements: { 2: { tag: 'script', source: 'a.js' }, 3: { tag: 'script', source: 'b.js' } }, handlers: { 1: { type: 'load', place: [0, 2, 1] }, 2: { type: 'load', place: [0, 2, 1] } }, places: { 12: [0, 3, 3], 16: [0, 3, 3] } };
+  const [head, first, second] = await listOf(lines, facts);
+  assert.match(head, /`total` keeps what is written last, by the load handler of script b\.js or by the load handler of script a\.js/);
+  assert.match(first, / load handler of script a\.js, registered at page\.html:2:1$/);
+  assert.match(second, / load handler of script b\.js, registered at page\.html:2:1$/);
+  const alike = await listOf(lines, { ...facts, elements: {} });
+  assert.match(alike[0], /by one run of the load handler or by another one/);
+});

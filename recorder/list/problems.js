@@ -19,6 +19,9 @@ const { ProblemWords, listed } = require('./problem-words.js');
  * @typedef {Omit<Problem, 'first'|'words'>} Folded
  */
 
+/** Locations that many writes change in parts. */
+const IN_PARTS = / (?:\([a-z]+\)|content|style|class|length)$/;
+
 class Problems {
   /**
    * @param {string} text the trace
@@ -33,6 +36,7 @@ class Problems {
     this.inWords = new ProblemWords(this.words, report.races);
     const looks = new Looks(report, names, this.words);
     this.userActs = looks.userActs;
+    this.accesses = looks.accesses;
     /** @type {NamedRace[]} */
     this.ofRaces = report.races.map((race) => Object.assign(this.lasting.nameRace(race), { look: looks.look(race) }));
     /** The race that is shown for each group. */
@@ -152,6 +156,14 @@ class Problems {
     const covered = `and covered by it, ${look.seen ? `${look.seen}: ` : ''}${this.words.race(this.report.races[race])}`;
     one.look = { ...look, seen: [one.look.seen, covered].filter(Boolean).join('; ') };
     one.worst = race;
+  }
+
+  /**
+   * Whether each side of a race writes all of a thing: an element's content, a set of keys or a number of items keeps a part of what was there.
+   * @param {Race} race
+   */
+  isReplaced({ location, modes, lines, actions }) {
+    return modes === 'ww' && !IN_PARTS.test(location) && lines.every((line, k) => !this.accesses.isUpdate(line, actions[k], location));
   }
 
   /** The problems with a line of their own: those that have the first race of a group, and what is lost and covered by it. */
