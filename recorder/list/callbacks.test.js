@@ -48,3 +48,13 @@ test('a handler that hears of a file is called by it, and runs of one callback a
   const alike = await listOf(lines, { ...facts, elements: {} });
   assert.match(alike[0], /by one run of the load handler or by another one/);
 });
+
+test('an access in a library has the place of the page\'s own call that led to it', async () => {
+  const lines = ['parse 0 1 inline', 'exec 1', 'set 2 9', 'set 1 0', 'timer 1', 'w var 0 total', 'timer 2', 'w var 0 total'];
+  /** @type {Partial<Names>} */
+  const facts = { places: { 4: [0, 2, 1], 5: [0, 2, 1], 7: [1, 1, 9], 9: [1, 1, 9] }, callers: { 7: [0, 3, 3] }, timeouts: { 1: { place: [0, 2, 1] }, 2: { place: [0, 2, 1] } } };
+  const [head, first, second] = await listOf(lines, facts);
+  assert.match(head, /^page\.html:3 {2}/);
+  assert.match(first, / page\.html:3:3 /);
+  assert.match(second, / jquery\.js:1:9 | page\.html:2:1 /);
+});

@@ -74,6 +74,7 @@ export interface Names {
   functions?: { [place: string]: string };
   places: { [line: string]: Place };
   ways?: { [line: string]: Place };
+  callers?: { [line: string]: Place };
   values?: { [line: string]: string };
   befores?: { [line: string]: string };
   counts?: { [line: string]: boolean };

@@ -130,6 +130,7 @@ export interface NamesOfTrace {
   /** By the number of the line. */
   places: { [line: string]: Place };
   ways?: { [line: string]: Place };
+  callers?: { [line: string]: Place };
   kept?: { [line: string]: boolean };
   typed?: { [line: string]: boolean };
 }
