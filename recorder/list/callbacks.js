@@ -210,7 +210,7 @@ class Callbacks {
       const [first, second] = [this.subject(one, hasPlace), this.subject(other, hasPlace)];
       if (first !== second) return [first, second];
     }
-    return ['another one', `one run of ${this.subject(one)}`];
+    return ['another one', `one run of ${this.subject(one, true)}`];
   }
 }
 

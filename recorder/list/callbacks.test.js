@@ -46,7 +46,13 @@ test('a handler that hears of a file is called by it, and runs of one callback a
   assert.match(first, / load handler of script a\.js, registered at page\.html:2:1$/);
   assert.match(second, / load handler of script b\.js, registered at page\.html:2:1$/);
   const alike = await listOf(lines, { ...facts, elements: {} });
-  assert.match(alike[0], /by one run of the load handler or by another one/);
+  assert.match(alike[0], /by one run of the load handler at page\.html:2:1 or by another one/);
+});
+
+test('two elements with one id both stay', async () => {
+  const lines = ['parse 0 1 async', 'parse 0 2 async', 'exec 1', 'w elem 0 node', 'exec 2', 'w elem 0 node'];
+  const [head] = await listOf(lines, { elements: { 1: { tag: 'script', source: 'a.js' }, 2: { tag: 'script', source: 'b.js' } } });
+  assert.match(head, /The script b\.js may add or change `#node` before or after the script a\.js does/);
 });
 
 test('an access in a library has the place of the page\'s own call that led to it', async () => {

@@ -159,11 +159,12 @@ class Problems {
   }
 
   /**
-   * Whether each side of a race writes all of a thing: an element's content, a set of keys or a number of items keeps a part of what was there.
+   * Whether each side of a race writes all of a thing: an element's content, a set of keys or a number of items keeps a part of what was there, and two
+   * elements can have one id.
    * @param {Race} race
    */
   isReplaced({ location, modes, lines, actions }) {
-    return modes === 'ww' && !IN_PARTS.test(location) && lines.every((line, k) => !this.accesses.isUpdate(line, actions[k], location));
+    return modes === 'ww' && location.startsWith('var ') && !IN_PARTS.test(location) && lines.every((line, k) => !this.accesses.isUpdate(line, actions[k], location));
   }
 
   /** The problems with a line of their own: those that have the first race of a group, and what is lost and covered by it. */
