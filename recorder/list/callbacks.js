@@ -132,7 +132,8 @@ class Callbacks {
    * @param {string} number @returns {string}
    */
   script(number) {
-    return this.words.script(number).replace(/^the /, '').replace(/ at .*$/, '');
+    const file = this.elements.fileOf(number);
+    return file ? `script ${file}` : 'script';
   }
 
   /**
@@ -185,7 +186,7 @@ class Callbacks {
     const [word, , number, type] = dispatch?.words || [];
     if (word === 'reply') return ` of ${this.request(number)}`;
     const isOfFile = word === 'eload' || (AT_FILE.has(type) && (word === 'fire' || word === 'inline'));
-    return isOfFile && this.names.elements[number]?.source ? ` of ${this.elements.named(number)}` : '';
+    return isOfFile && this.elements.fileOf(number) ? ` of ${this.elements.named(number)}` : '';
   }
 
   // ---- in sentences
@@ -196,7 +197,7 @@ class Callbacks {
    */
   subject(number, hasPlace = false) {
     const { words: [word, a] } = this.words.actions.list[this.words.actions.list[number].first];
-    const text = word === 'exec' ? this.words.script(a) : this.of(number).replace(ASKED, (whole, at, own) => (hasPlace ? ` at ${own || at}` : ''));
+    const text = word === 'exec' && !this.elements.fileOf(a) ? this.words.script(a) : this.of(number).replace(ASKED, (whole, at, own) => (hasPlace ? ` at ${own || at}` : ''));
     return /^(?:DOMContentLoaded|code whose|the |an? )/.test(text) ? text : `the ${text}`;
   }
 

@@ -39,10 +39,23 @@ class ElementWords {
    * @returns {string}
    */
   named(number) {
-    const { tag = '', id, field, source, standsFor } = this.names.elements[number] || {};
+    const { tag = '', id, field, standsFor } = this.names.elements[number] || {};
     if (standsFor) return this.named(standsFor);
-    if (source && !id && !field) return `${tag} ${this.words.nameOfSource(source)}`;
+    const file = this.fileOf(number);
+    if (file && !id && !field) return `${tag} ${file}`;
     return this.words.element(number) + this.labelOf(number);
+  }
+
+  /**
+   * The file that an element has, as a script or an image; '' if it has none.
+   * @param {string|number} number
+   * @returns {string}
+   */
+  fileOf(number) {
+    const { source, loads, standsFor } = this.names.elements[number] || {};
+    if (standsFor) return this.fileOf(standsFor);
+    const address = source || loads;
+    return address ? this.words.nameOfSource(address) : '';
   }
 
   /**

@@ -18,6 +18,8 @@ export interface Facts {
   id?: string;
   field?: string;
   source?: string;
+  /** The whole address of what an element loads: code may set it after the element was first met, when there was no source. */
+  loads?: string;
   standsFor?: number;
   message?: number;
   type?: string;
