@@ -1,5 +1,6 @@
 'use strict';
-// How each command of the recorder starts and ends: its help, wrong arguments, faults that have a status, and internal errors.
+// How each command of the recorder starts and ends: its help, wrong arguments, faults that have a status, and internal errors. The exit status and the message
+// of each error.
 
 const { print, printError } = require('./common/output.js');
 const { BrowserFault } = require('./browser/protocol.js');

@@ -1,5 +1,5 @@
 'use strict';
-// The options of the interface for programs, as arguments of the commands, which check them.
+// The options of the interface for programs, as arguments of the commands, which check them. An object of options becomes command line arguments (flags).
 
 /**
  * How a page is recorded; docs/using.md describes each option of er_record.
@@ -11,7 +11,7 @@
  * @property {number} [clicks] clicks on what is in view
  * @property {number} [seed] chooses them
  * @property {string} [avoid] a regular expression for what the clicks avoid, or none
- * @property {number} [slow] each file is delayed by up to so many milliseconds
+ * @property {number} [slow] each file except pages is delayed by up to so many milliseconds
  * @property {number} [time] the recording ends after so many seconds
  * @property {string} [root] the folder to serve
  * @property {string} [fallback] the file that answers for paths without a file

@@ -1,5 +1,5 @@
 'use strict';
-// One call of the interface for programs, in a process of its own: gets a task as a message, and answers it with a message.
+// One call of the interface for programs, in a process of its own: gets a task as a message, and answers it with a message. The child process of the API.
 
 const fs = require('node:fs');
 const { statusOf } = require('./command.js');
@@ -70,6 +70,7 @@ async function tracesOf(given) {
 }
 
 /**
+ * The task of `list()`: analyzes traces, and writes the outputs that are asked for.
  * @param {ListTask} task
  * @returns {Promise<Report>}
  */

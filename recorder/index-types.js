@@ -1,7 +1,8 @@
 'use strict';
 // What the functions of the interface for programs return, and the messages to the process of a call: types only. They name no other type of the recorder,
 // so that their declarations are complete in three small files (tools/declarations); tools/types compares them with the code of the list. The package has
-// these files. A checkout has none: a file index.d.ts beside index.js would take its place in the check of types.
+// these files. A checkout has none: a file index.d.ts beside index.js would take its place in the check of types. TypeScript finds the types of results here
+// (JSDoc).
 
 /**
  * `USAGE`: wrong arguments. `REFUSED`: the analyzer refused a trace. `NO_PAGE`: the page, the trace, the suite or the browser to attach to cannot be used.

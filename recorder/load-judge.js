@@ -17,6 +17,7 @@ const { useProgram } = require('./races/program.js');
  * @typedef {{number: number, status: number, stored?: Stored, fault?: string}} Answer `fault` is why the call ends with the status
  */
 
+/** Made once in each process; by loads.js if one process is enough. */
 class LoadJudge {
   /** @param {Start} start */
   constructor({ program, command, known, isWhole, isLinkedAll, hearsSignals }) {

@@ -1,5 +1,5 @@
 'use strict';
-// Page loads analyzed by several processes: half of the processors. Each has few traces at once in memory.
+// Page loads analyzed by several processes: half of the processors. Each has few traces at once in memory. A pool of child processes.
 
 const { fork } = require('node:child_process');
 const os = require('node:os');
@@ -65,6 +65,7 @@ class Judge {
   }
 }
 
+/** Made by loads.js. */
 class LoadJudges {
   /** @param {Start} start */
   constructor(start) {

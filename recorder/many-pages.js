@@ -1,5 +1,6 @@
 'use strict';
-// er_page --list FILE and --sitemap URL: records the pages of a list, several at once and each in a process of its own, and lists the races of all.
+// er_page --list FILE and --sitemap URL: records the pages of a list, several at once and each in a process of its own, and lists the races of all. Many URLs,
+// crawled from a file or a sitemap.
 
 const { fork } = require('node:child_process');
 const fs = require('node:fs');
@@ -38,7 +39,10 @@ const ONE = path.join(__dirname, 'record-one.js');
  */
 const addressesOf = (text) => [...new Set(text.split(/\r?\n/).map((line) => line.trim()).filter((line) => line && !line.startsWith('#')))];
 
-/** @param {string} file */
+/**
+ * The addresses in the file of --list, one in each line.
+ * @param {string} file
+ */
 function readList(file) {
   let text;
   try {
@@ -111,6 +115,7 @@ function isComplete(page) {
   return !!recorded && !recorded.failed && !recorded.incomplete;
 }
 
+/** Made by `listPages`, for all pages of a list. */
 class ManyPages {
   /** @param {Page[]} pages */
   constructor(pages) {

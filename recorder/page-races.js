@@ -102,7 +102,10 @@ function prepareFolder(folder) {
   fs.rmSync(path.join(folder, 'page.replay.json'), { force: true });
 }
 
-/** @param {Call} call */
+/**
+ * Records the page, prints the list of its races, and replays what is to be replayed. Returns the exit status.
+ * @param {Call} call
+ */
 async function pageRaces(call) {
   const { given, folder, options } = call;
   const known = Known.of(options);

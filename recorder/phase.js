@@ -1,5 +1,6 @@
 'use strict';
-// Phases after a recording, which may keep this process busy: a line on standard error every five seconds, and an end by a signal at once.
+// Phases after a recording, which may keep this process busy: a line on standard error every five seconds, and an end by a signal at once. A slow phase shows
+// that it still works.
 
 const { Worker } = require('node:worker_threads');
 const { SIGNALS } = require('./common/stoppable.js');

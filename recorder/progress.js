@@ -1,9 +1,10 @@
 'use strict';
-// The line on standard error that shows how a recording goes, or the runs of a replay.
+// The line on standard error that shows how a recording goes, or the runs of a replay. On a terminal the line is overwritten.
 
 const ON_TERMINAL = 250;
 const ELSEWHERE = 5000;
 
+/** Made by the commands that record or replay. */
 class Progress {
   /**
    * @param {NodeJS.WriteStream} stream

@@ -61,6 +61,7 @@ function printIncomplete(recorder) {
 }
 
 /**
+ * Records, until the end or a signal.
  * @param {Recorder|AttachedRecorder} recorder
  * @returns {Promise<number>} the status of a recording that failed, or 0
  */

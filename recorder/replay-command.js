@@ -16,6 +16,7 @@ const { MOST_BY_ITSELF } = require('./replay-by-itself.js');
 const { verdictInWords, verdictOf, worstOf, orderOfResults, groupInWords, plain, VERDICTS } = require('./replay/verdict.js');
 const { ReplayProgress } = require('./replay-progress.js');
 const { besides, writePage } = require('./view.js');
+const { arranged } = require('./view/lines.js');
 
 /** @typedef {import('./races/types').Report} Report */
 /** @typedef {import('./list/listing.js').Listing} Listing */
@@ -194,7 +195,9 @@ class ReplayCommand {
     this.write(replay, races, await this.linked);
   }
 
+  /** What is printed about all replayed races, and is in the file of verdicts. */
   lines() {
+    if (!this.results.length) return ['No race was run again to the end.'];
     const lines = ['Run again in the other order:'];
     let part = '';
     for (const { number, result } of this.results) {
@@ -212,15 +215,6 @@ class ReplayCommand {
   }
 
   /**
-   * The view's problems with their places and sections in the list as it is after the replays.
-   * @param {Shown} model
-   */
-  inOrder(model) {
-    const places = new Map(this.listing.problems.map((one, order) => [one.name, { order, part: this.listing.partOf(one) }]));
-    return model.problems.map((one) => ({ ...one, ...places.get(one.name) }));
-  }
-
-  /**
    * Writes what the replay found.
    * @param {Replay} replay
    * @param {ReturnType<typeof plain>[]} races
@@ -235,7 +229,7 @@ class ReplayCommand {
       const shownRace = { ...race, differences: race.differences || [], trace: race.trace || '', picture: pictures[k], groupWords: groups[k] };
       return /** @type {import('./view/types').ShownReplay} */ (shownRace);
     });
-    writePage(this.traceFile, { ...model, problems: this.inOrder(model), replays, recordedPicture: replay.recorded.run.end.picture?.small || null });
+    writePage(this.traceFile, { ...arranged(model, this.listing), replays, recordedPicture: replay.recorded.run.end.picture?.small || null });
   }
 }
 

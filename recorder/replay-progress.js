@@ -4,6 +4,7 @@
 const { printError } = require('./common/output.js');
 const { Progress } = require('./progress.js');
 
+/** Made by replay-command.js. */
 class ReplayProgress {
   /**
    * @param {import('./replay/runs.js').Runs} runs

@@ -117,6 +117,7 @@ function optionsAgain(recorded, given, hasTime) {
 }
 
 /**
+ * Records the page of a trace once more, finds the wanted races in the new recording, and replays them. Returns the exit status.
  * @param {string} trace
  * @param {CommandOptions} given
  * @param {boolean} hasTime whether --time is among the arguments

@@ -1,5 +1,6 @@
 'use strict';
-// The addresses of a site's sitemap.xml, for er_page --sitemap: only those of the sitemap's own origin. Whatever the server sends is untrusted.
+// The addresses of a site's sitemap.xml, for er_page --sitemap: only those of the sitemap's own origin. Whatever the server sends is untrusted. It is
+// downloaded, parsed as XML, and limited in its size.
 
 const { CommandFault } = require('./command.js');
 const { withoutCredentials } = require('./common/address.js');
@@ -59,6 +60,7 @@ async function textOf(response) {
 }
 
 /**
+ * The text at an address. A redirect, another status than 2xx or no answer in time is a CommandFault.
  * @param {string} address
  * @param {Access} access
  */

@@ -27,6 +27,7 @@ const AT_ONCE = 4;
 /** Nothing of a page's end is known: its test ends it at any time. */
 const NO_END = { isKnown: false, consoleErrors: [], dialogs: [], requests: [], lines: [], ids: [], fields: {}, storage: {}, variables: {}, title: '', hash: '', focus: '', picture: null };
 
+/** Made by suite-replays.js for each load that is compared. */
 class SuiteLoad {
   /** @param {string} file the trace */
   constructor(file) {

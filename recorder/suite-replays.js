@@ -1,5 +1,6 @@
 'use strict';
 // er_suite --replay-with COMMAND: runs the suite once more with nothing held back, then for each problem with what brings its first access held back.
+// `er_suite` runs the tests again with a response or a callback delayed.
 
 const fs = require('node:fs');
 const path = require('node:path');
@@ -48,6 +49,7 @@ const LONGEST_TAIL = 500;
 /** @param {string} file what a command printed */
 const tailOf = (file) => fs.readFileSync(file, 'utf8').trimEnd().slice(-LONGEST_TAIL).split('\n').slice(-3).join(' | ');
 
+/** Made by suite.js for `er_suite --replay-with`, and by index-task.js for programs. */
 class SuiteReplays {
   /**
    * @param {LoadsListing} listing
@@ -195,6 +197,7 @@ class SuiteReplays {
   }
 
   /**
+   * The verdict on a race by a load in which its first access was held back, compared with the load in which nothing was.
    * @param {{load: SuiteLoad, held: SuiteLoad, sides: ReturnType<SuiteLoad['sidesOf']>, race: Race, cause: import('./replay/types').Cause}} tried
    * @param {Ended} ended
    * @param {Listed} problem

@@ -1,5 +1,6 @@
 'use strict';
-// One run of a suite's own command, which records into a folder of its own: what it held back, how it ended, and its traces.
+// One run of a suite's own command, which records into a folder of its own: what it held back, how it ended, and its traces. The test command is spawned in a
+// process group.
 
 const { spawn } = require('node:child_process');
 const fs = require('node:fs');
@@ -30,6 +31,7 @@ function readOrEmpty(file) {
   }
 }
 
+/** Made by SuiteReplays for each run. */
 class SuiteRun {
   /**
    * @param {string} command

@@ -68,6 +68,7 @@ async function waitForTraces(folder) {
 }
 
 /**
+ * Analyzes all page loads of the folders, once their recorders have ended, and prints the list. Returns the exit status.
  * @param {string[]} folders
  * @param {CommandOptions} options
  */

@@ -85,12 +85,10 @@ async function writeView(traceFile, report, { known = null, isLinkedLater = fals
   const queried = report.actions <= MOST_TO_QUERY ? linksBetween(traceFile, pairs) : Promise.resolve([]);
   const links = isLinkedLater ? [] : await queried;
   const listing = busy(() => new Listing([problems], known));
-  const nameOf = (/** @type {number} */ race) => problems.ofRaces[race].problem;
-  const ordered = { problems: listing.problems, nameOf, leads: problems.leads, listing };
   const trace = quoted(traceFile);
   const commands = { viewer: called('er_view'), trace: traceFile, command: `${called('er_view')} ${trace}`, report: `${called('er_cli')} < ${trace}` };
   /** @type {Shown} */
-  const shown = { ...busy(() => model.build(links || [], ordered)), leftOut: problems.leftOut, ofLibraries: problems.ofLibraries, notComplete: problems.notComplete, isUnproved: !isProved(), lacksLinks: !links, ...commands };
+  const shown = { ...busy(() => model.build(links || [], listing)), leftOut: problems.leftOut, ofLibraries: problems.ofLibraries, notComplete: problems.notComplete, isUnproved: !isProved(), lacksLinks: !links, ...commands };
   busy(() => writePage(traceFile, shown));
   const linked = queried.then((all) => ({ ...shown, links: (all || []).slice(0, MOST_LINKS), lacksLinks: !all }));
   linked.catch(() => {}); // its fault is that of the command that waits for it

@@ -16,7 +16,10 @@ const FILE = /`([\w./-]+(?:\.(?:js|ts|css)|\/|\/launch))`/g;
  * A definition: `line` is its line, `from` the first of its comment, both from 1; `comment` is '' if it has none.
  * @typedef {{name: string, line: number, from: number, parameters: string, comment: string}} Definition
  */
-/** @typedef {{question: string, answer: string, files: string[]}} Row a row or a recipe of the map, with whole paths in its answer */
+/**
+ * A row or a recipe of the map, with whole paths in its answer. `parts` has what its answer says about each file.
+ * @typedef {{question: string, answer: string, files: string[], parts: {file: string, text: string}[]}} Row
+ */
 /** @typedef {{file: string, line: number, text: string}} Heading */
 /** @typedef {{modules: Module[], rows: Row[], headings: Heading[]}} Index */
 
@@ -42,9 +45,7 @@ function partsOf(text) {
     }
     if (!isComment[k]) from = k + 1;
   });
-  const starts = [0];
-  for (const line of lines) starts.push(starts[starts.length - 1] + line.length + 1);
-  return { about, definitions, isComment, starts };
+  return { about, definitions, isComment, lines, head: head + rest };
 }
 
 /** A module: most have no word of a query, so their lines are read late. */
@@ -59,7 +60,7 @@ class Module {
     this.lower = text.toLowerCase();
   }
 
-  /** `about` is its first comment, `starts` has the offset of each line, `isComment` whether the line is one. */
+  /** `about` is its first comment, which ends before line `head` (from 0); `isComment` has whether each of its `lines` is one. */
   get parts() {
     return this.#parts ??= partsOf(this.text);
   }
@@ -104,6 +105,7 @@ function withPaths(row) {
  */
 const rowOf = (question, answer) => ({
   question: question.replace(/`/g, ''), answer: answer.replace(/`/g, ''), files: [...answer.matchAll(/`recorder\/([\w./-]+)`/g)].map(([, file]) => file),
+  parts: answer.split(/; |(?<=\)), (?=`)/).flatMap((text) => [...text.matchAll(/`recorder\/([\w./-]+)`/g)].map(([, file]) => ({ file, text: text.replace(/`recorder\/[^`]*`/g, '') }))),
 });
 
 /**

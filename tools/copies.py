@@ -70,6 +70,12 @@ def copy_of(lines, names):
         yield top
 
 
+def ci_from_nothing():
+    """The arguments of the gate's command that take no finished proof: some versions of the toolchain keep proofs unless `--anew` is given, others never do."""
+    shown = subprocess.run(["rt", "--help"], capture_output=True, text=True, check=False)
+    return ["ci", "--anew"] if "--anew" in shown.stdout + shown.stderr else ["ci"]
+
+
 @contextlib.contextmanager
 def called(folder, *arguments):
     """Calls rt in a folder, and gives the process: its output, with errors among it, is in `stdout`, a line at a time."""

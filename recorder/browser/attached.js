@@ -1,5 +1,6 @@
 'use strict';
-// A Chromium that someone else started and drives, with --remote-debugging-port: its protocol over a WebSocket, and its first tab.
+// A Chromium that someone else started and drives, with --remote-debugging-port: its protocol over a WebSocket, and its first tab. `er_record --attach`
+// connects to it.
 
 const http = require('node:http');
 const { withoutCredentials } = require('../common/address.js');

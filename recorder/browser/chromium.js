@@ -1,5 +1,6 @@
 'use strict';
-// Headless Chromium, driven over a pipe of its DevTools protocol: nothing listens on a port.
+// Headless Chromium, driven over a pipe of its DevTools protocol: nothing listens on a port. Its command line flags, its temporary profile (home folder), which
+// is deleted at the end, how it starts, ends and is killed.
 
 const { spawn } = require('node:child_process');
 const fs = require('node:fs');
@@ -87,6 +88,7 @@ function spawnBrowser(flags, folder, log) {
   return { child, input: /** @type {import('node:stream').Writable} */ (input), output: /** @type {import('node:stream').Readable} */ (output) };
 }
 
+/** An own browser; AttachedChromium (attached.js) is another program's. */
 class Chromium extends Protocol {
   /** @param {LaunchOptions} options */
   static async launch(options) {
@@ -111,7 +113,10 @@ class Chromium extends Protocol {
     this.onProcessExit = () => this.killNow();
   }
 
-  /** @param {LaunchOptions} options */
+  /**
+   * Starts the program with its flags and a temporary profile; `hasStarted` waits until it answers.
+   * @param {LaunchOptions} options
+   */
   start({ width, height, ignoresCertificateErrors = false, userDataDir = null, isHeaded = false }) {
     this.folder = temporaryFolder();
     const flags = [...FLAGS.filter((flag) => !isHeaded || flag !== '--headless'), ...sandboxFlags(), ...(ignoresCertificateErrors ? ['--ignore-certificate-errors'] : []),

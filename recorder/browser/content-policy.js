@@ -1,5 +1,6 @@
 'use strict';
-// Content policies of a page. Its copy keeps them: what a policy allows by the hash of its text is allowed in its instrumented form too.
+// Content policies of a page. Its copy keeps them: what a policy allows by the hash of its text is allowed in its instrumented form too. What a policy
+// (Content-Security-Policy, CSP) blocks stays blocked.
 
 const { createHash } = require('node:crypto');
 

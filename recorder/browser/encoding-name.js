@@ -1,5 +1,6 @@
 'use strict';
-// The encoding that a page or a script names: in its content type, or in a `meta` element at its start.
+// The encoding that a page or a script names: in its content type, or in a `meta` element at its start. It is the charset: `Content-Type: text/html;
+// charset=..`, `<meta charset>`.
 
 /** The browser looks in so many bytes, and in more while nothing but elements of the head comes. */
 const ALWAYS = 1024;

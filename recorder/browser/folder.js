@@ -1,5 +1,6 @@
 'use strict';
-// A folder as a web site: what a small file server would answer. The browser's requests are answered on their way, so nothing listens.
+// A folder as a web site: what a small file server would answer. The browser's requests are answered on their way, so nothing listens. The content type (MIME
+// type) by the ending of a file's name, `index.html` of a folder, status 404.
 
 const fs = require('node:fs');
 const os = require('node:os');
@@ -65,6 +66,7 @@ function realPath(file) {
   }
 }
 
+/** Made for `--root` or a page that is a file. */
 class Folder {
   /**
    * @param {string} root

@@ -1,5 +1,5 @@
 'use strict';
-// The permission of a page of this machine to reach servers of this machine and of its network.
+// The permission of a page of this machine to reach servers of this machine and of its network. Chromium would ask the user.
 
 const { isOfThisMachine } = require('./changing.js');
 

@@ -1,5 +1,6 @@
 'use strict';
-// Which servers are on this machine, and the requests that the recorder itself makes: source maps.
+// Which servers are on this machine, and the requests that the recorder itself makes: source maps. A `.map` file is downloaded only from the script's own
+// server.
 
 const os = require('node:os');
 const { originOf } = require('../common/address.js');

@@ -1,5 +1,6 @@
 'use strict';
-// The calls, answers and events of the DevTools protocol, over whatever carries its messages.
+// The calls, answers and events of the DevTools protocol, over whatever carries its messages. A call fails with a BrowserFault if the connection closes before
+// its answer, or if no answer comes in time (timeout).
 
 const { EventEmitter } = require('node:events');
 const { debug } = require('../common/debug.js');

@@ -1,5 +1,6 @@
 'use strict';
-// Takes each request and each response on its way (the protocol's Fetch domain), and leads it through the interceptors of responses/.
+// Takes each request and each response on its way (the protocol's Fetch domain), and leads it through the interceptors of responses/. The HTTP cache is off
+// meanwhile, and service workers are bypassed.
 
 const { BrowserFault } = require('./protocol.js');
 const { ChangesGuard } = require('./responses/changes-guard.js');
@@ -43,6 +44,7 @@ const STAGES = [{ urlPattern: '*', requestStage: 'Request' }, { urlPattern: '*',
  *   a user's name, and if they are undefined the browser asks its driver
  */
 
+/** Made for each recording: by session.js, and by driven/load.js for each load. */
 class Responses {
   /**
    * @param {import('./tab.js').Tab} tab

@@ -1,5 +1,6 @@
 'use strict';
-// One tab of the browser: its session of the DevTools protocol.
+// One tab of the browser: its session of the DevTools protocol. Its target is created, its cookies are read, downloads are refused, windows that the page opens
+// (popups) are closed; `evaluate` runs code in it.
 
 /**
  * @typedef {import('./protocol.js').Protocol} Protocol
@@ -15,6 +16,7 @@ const LONGEST_COOKIES = 1000;
 /** What a browser asks its user for before a page reaches servers of this machine, and of the network around it. */
 const LOCAL_NETWORK = ['loopback-network', 'local-network'];
 
+/** Of an own browser; attached.js has that of another program's, driven-tab.js those of a driver. */
 class Tab {
   /**
    * Opens a tab in a context of its own, or in the profile's.
@@ -151,6 +153,7 @@ class Tab {
   }
 
   /**
+   * The result of an expression in a world of its own, in which the page has replaced nothing.
    * @param {string} expression
    * @param {boolean} returnByValue
    * @returns {Promise<{value?: any, objectId?: string}>} whatever the page answers

@@ -1,5 +1,6 @@
 'use strict';
-// Reads the bytes of a page or a script as the browser would, and writes its instrumented copy in the same encoding.
+// Reads the bytes of a page or a script as the browser would, and writes its instrumented copy in the same encoding. The encoding (charset) is that of a byte
+// order mark (BOM), of the header, of a `meta` element: UTF-8, UTF-16, windows-1252, Shift_JIS, ..
 
 const { decodeAs, encodeBy, isOfTwoBytes, tableOf } = require('./encoders.js');
 const { encodingOf, namedEncoding } = require('./encoding-name.js');

@@ -1,6 +1,6 @@
 'use strict';
 // A user at a page, by the browser's own input, so that the page sees trusted events: a pointer, keys, typed text. What each step does with these:
-// user-steps.js.
+// user-steps.js. Mouse moves, clicks and keys are sent by the protocol (Input domain).
 
 const { sleep, within } = require('../common/time.js');
 const { bitsOf, chordOfCharacter, eventsOf, halfOf, isModifier } = require('./input/keyboard.js');
@@ -28,6 +28,7 @@ const EARLY_POLL = 10;
  */
 const isSpot = (action) => action.kind === 'spot';
 
+/** Made by the recorder of a page and by that of a flow. */
 class User {
   /** @param {import('./tab.js').Tab} tab */
   constructor(tab) {

@@ -1,5 +1,6 @@
 'use strict';
-// Work done several pieces at once: with a rank, over a list, and its results.
+// Work done several pieces at once: with a rank, over a list, and its results. A pool with a limit: at most so many pieces run concurrently, the others wait in
+// a queue.
 
 class AtOnce {
   /** @param {number} most how many pieces of work go on at once */

@@ -26,6 +26,7 @@ function folderOf(environment) {
   return path.join(given && path.isAbsolute(given) ? given : path.join(os.homedir(), '.cache'), 'eventracer');
 }
 
+/** Made by instrument/kept-marks.js. */
 class CacheFolder {
   /** @param {string|null} folder null: nothing is kept */
   constructor(folder = folderOf(process.env), mostBytes = MOST_BYTES) {

@@ -1,5 +1,5 @@
 'use strict';
-// A text by its digest.
+// A text by its digest. A hash (SHA-256) in hexadecimal.
 
 const { createHash } = require('node:crypto');
 

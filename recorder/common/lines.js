@@ -1,5 +1,5 @@
 'use strict';
-// Lines and columns of a text.
+// Lines and columns of a text. The line and column of an offset, and the offset of a line and column.
 
 /** As a reader counts them, and the parser of a page. */
 const LINE_END = /\r\n|[\n\r]/g;

@@ -1,5 +1,6 @@
 'use strict';
-// What the commands print for a reader: every line goes through here, so that no text of a page or a server controls the terminal.
+// What the commands print for a reader: every line goes through here, so that no text of a page or a server controls the terminal. Standard output and standard
+// error, colors, and no control characters (escape sequences) of others.
 
 const { withoutCommands } = require('./shown.js');
 

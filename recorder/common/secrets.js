@@ -1,6 +1,6 @@
 'use strict';
 // What no file and no output has: the values of cookies and headers, passwords, tokens in addresses, and what --redact names. Each becomes the same word in
-// every run, so that names stay comparable.
+// every run, so that names stay comparable. They are redacted: masked in traces, names, reports and error messages.
 
 const { HIDDEN, withoutCredentials, withoutTokens } = require('./address.js');
 

@@ -1,6 +1,6 @@
 'use strict';
 // Numbers by chance that are the same in each run with one seed, for `--chaos` (recording/chaos.js, responses/chaos-network.js). Each use starts its text with
-// a word of its own. Another formula gives each seed another order.
+// a word of its own. Another formula gives each seed another order. A pseudo-random number generator: a hash of a text and the seed.
 
 /**
  * A number from 0 up to 1 for a seed and a text.

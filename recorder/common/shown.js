@@ -1,5 +1,6 @@
 'use strict';
-// A text of a page as a reader gets it: truncated if it is long, and without what a terminal or a browser takes for a command.
+// A text of a page as it is shown to a reader: truncated if it is long, and without what a terminal or a browser takes for a command. Control characters of a
+// terminal are written as escapes (`\u{1b}`).
 
 /** Control characters, line ends, what changes the direction of a text, and halves of characters. */
 const COMMANDS = /[\u0000-\u001f\u007f-\u009f\u061c\u200e\u200f\u2028-\u202e\u2066-\u2069]|\p{Cs}/gu;

@@ -1,5 +1,5 @@
 'use strict';
-// The exit statuses of the commands (docs/using.md).
+// The exit statuses of the commands (docs/using.md). 0: no race, 1: a race was found, and the codes of errors.
 
 const STATUS = {
   ok: 0,

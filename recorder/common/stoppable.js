@@ -1,5 +1,5 @@
 'use strict';
-// Work that a signal (Ctrl-C, a kill, a closed terminal) stops in an orderly way, for the commands.
+// Work that a signal (Ctrl-C, a kill, a closed terminal) stops in an orderly way, for the commands. The signals are SIGINT, SIGTERM and SIGHUP.
 
 /** The signals that end a command. */
 const SIGNALS = ['SIGINT', 'SIGTERM', 'SIGHUP'];

@@ -1,5 +1,5 @@
 'use strict';
-// Waiting, always with an end.
+// Waiting, always with an end. A sleep, and a promise with a timeout.
 
 /**
  * @param {number} time in milliseconds

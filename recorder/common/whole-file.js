@@ -1,5 +1,6 @@
 'use strict';
-// A file that is written whole or not at all, also if the disk is full: else a WriteFault. All output files of the commands are written here.
+// A file that is written whole or not at all, also if the disk is full: else a WriteFault. All output files of the commands are written here. It is written
+// beside its place and then renamed (atomically), so that no reader finds half of it.
 
 const { randomBytes } = require('node:crypto');
 const fs = require('node:fs');

@@ -1,5 +1,6 @@
 'use strict';
-// Records each page load of each tab of a browser that another program drives: for er_browser (main.js) and flows over several pages (flow-recorder.js).
+// Records each page load of each tab of a browser that another program drives: for er_browser (main.js) and flows over several pages (flow-recorder.js). Tabs,
+// windows and pages of a test run (Playwright, Puppeteer, Selenium) are its targets. The driver may kill the browser.
 
 const complaints = require('./complaints.js');
 const { addressKey } = require('./hold-plan.js');
@@ -27,6 +28,7 @@ const ONLY_SERVICE_WORKERS = [{ type: 'service_worker' }, { exclude: true }];
 /** @typedef {import('./driven-tab.js').ProtocolEvent} ProtocolEvent */
 /** @typedef {import('./load.js').Load} LoadOfPage */
 
+/** Made by main.js for a driver's browser, and by flow-recorder.js for its own. */
 class BrowserRecorder {
   /**
    * @param {import('../browser/protocol.js').Protocol} browser
@@ -286,7 +288,7 @@ class BrowserRecorder {
     });
   }
 
-  /** The browser has ended. */
+  /** The browser has ended, or its driver has killed it: what came of each load is written. */
   async finish() {
     clearInterval(this.timer);
     this.pause.end();

@@ -1,5 +1,6 @@
 'use strict';
-// A tab that a driver drives, and its page loads one after the other. A load starts when the tab shows another document, not with a step inside of one.
+// A tab that a driver drives, and its page loads one after the other. A load starts when the tab shows another document, not with a step inside of one. Also if
+// the driver itself intercepts requests (`page.route`).
 
 const { Tab } = require('../browser/tab.js');
 const { within } = require('../common/time.js');
@@ -23,6 +24,7 @@ const WRITTEN = 'not recorded: pages that a program writes into an empty page, a
 const LONGEST_SETTING = 1000;
 const LONGEST_SETTING_OF_OPENED = 100;
 
+/** Made by BrowserRecorder for each tab that it meets. */
 class DrivenTab {
   /**
    * @param {import('./browser-recorder.js').BrowserRecorder} recorder

@@ -1,5 +1,5 @@
 'use strict';
-// Finds the port at which a browser that another process starts takes a client of its protocol.
+// Finds the port at which a browser that another process starts takes a client of its protocol. The file DevToolsActivePort.
 
 const fs = require('node:fs');
 const path = require('node:path');

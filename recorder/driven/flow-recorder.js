@@ -30,6 +30,7 @@ const LONGEST_LOAD = 600;
 /** @type {(why: string|null) => Outcome} */
 const notDone = (why) => ({ isDone: false, why });
 
+/** Made by page-flow.js for `er_page --flow`. */
 class FlowRecorder {
   /**
    * @param {Step[]} steps the first one loads a page
@@ -77,7 +78,10 @@ class FlowRecorder {
     }
   }
 
-  /** @param {Chromium} browser */
+  /**
+   * Starts the browser with a recorder of its tabs, and does the steps.
+   * @param {Chromium} browser
+   */
   async recordIn(browser) {
     const { options } = this;
     const { viewport, ignoresCertificateErrors, userDataDir, isHeaded } = options;
@@ -141,7 +145,10 @@ class FlowRecorder {
 
   // ---- steps
 
-  /** @param {User} user */
+  /**
+   * Does the steps in their order, until one fails (without --keep-going) or a signal comes.
+   * @param {User} user
+   */
   async doSteps(user) {
     for (const step of this.steps) {
       if (this.isStopped) return;

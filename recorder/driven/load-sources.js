@@ -18,6 +18,7 @@ class SharedSources extends Sources {
   }
 }
 
+/** Made by driven/load.js for each load. */
 class LoadSources extends Sources {
   /** @param {SharedSources} shared */
   constructor(shared) {

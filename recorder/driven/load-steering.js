@@ -21,6 +21,7 @@ const ROOM = 4000;
 /** @param {unknown} value */
 const codeOf = (value) => JSON.stringify(value).replace(/</g, '\\u003c');
 
+/** Made by BrowserRecorder for each load, if the run has a plan (ER_HOLD). */
 class LoadSteering extends RunSteering {
   /**
    * @param {Plan} plan

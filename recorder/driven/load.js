@@ -38,6 +38,7 @@ const MOST_ERRORS = 100;
  * @property {((load: Load) => import('./load-steering.js').LoadSteering|null)} steer what it holds back
  */
 
+/** Made by BrowserRecorder for each page load. */
 class Load {
   /** @param {LoadFacts} facts */
   constructor({ channel, shared, options, opened, number, nth, tab, opener, address, file, test, isAsked, steer }) {

@@ -48,7 +48,10 @@ function testOf(pid) {
   return { pid: (asked || driver || { pid }).pid, words, ...(process.env.ER_TEST ? { name: process.env.ER_TEST } : {}) };
 }
 
-/** @param {string[]} words */
+/**
+ * Records until the browser ends. `driven/launch` starts this process with these words, and waits for the file READY.
+ * @param {string[]} words
+ */
 async function main([browserPid, driverPid, port, profile, ready, log, ...pages]) {
   const tellReady = () => { if (fs.existsSync(path.dirname(ready))) fs.writeFileSync(ready, ''); };
   process.on('exit', tellReady); // the driver waits no longer

@@ -15,6 +15,7 @@ const START = 'typeof __er === "object" ? __er.removeHold(document.currentScript
  */
 const startOf = (html) => (BEGIN.exec(html)?.[0] || '').length;
 
+/** Made by BrowserRecorder. */
 class OpenedWindow {
   /**
    * @param {string} address of the page

@@ -9,6 +9,7 @@ const QUIET = 150;
 const LONGEST = 2000;
 const POLL = 20;
 
+/** Made by BrowserRecorder; loads wait for it before they are written. */
 class Pause {
   constructor() {
     this.last = 0;

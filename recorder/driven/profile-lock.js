@@ -1,5 +1,6 @@
 'use strict';
-// Only one recorder records a browser: its process number is in a file of the browser's profile.
+// Only one recorder records a browser: its process number is in a file of the browser's profile. A second one, of a browser with the same `--user-data-dir`
+// (profile directory), fails.
 
 const fs = require('node:fs');
 const path = require('node:path');
@@ -9,6 +10,7 @@ const { isAlive } = require('./endpoint.js');
 /** Is in the command line of each recorder: the number of one that was killed can be that of another process. */
 const RECORDER = 'driven/main.js';
 
+/** Made by driven/main.js. */
 class ProfileLock {
   /** @param {string} profile the folder, which the browser has made */
   constructor(profile) {

@@ -21,6 +21,7 @@ function slugOf(address) {
   return words.length > LONGEST_SLUG ? words.slice(-LONGEST_SLUG) : words || 'page';
 }
 
+/** Made by driven/main.js and page-flow.js. */
 class TraceFolder {
   /**
    * @param {string} log the file for the recorder's messages, which `launch` names by date and process: recordings have its name, then a number and the address

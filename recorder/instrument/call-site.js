@@ -1,6 +1,6 @@
 'use strict';
 // How the browser reports the code of a call that fails, as in "$(...).menu is not a function": read from the page's own text, where the browser saw a copy
-// with marks.
+// with marks. It is the text of a TypeError.
 
 const acorn = require('/usr/share/nodejs/acorn');
 

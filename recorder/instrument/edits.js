@@ -1,5 +1,6 @@
 'use strict';
-// Changes of a text, each at a place of the original, and the way back: which original place a place of the changed text stands for.
+// Changes of a text, each at a place of the original, and the way back: which original place a place of the changed text stands for. A line and column of the
+// instrumented copy become those of the original code.
 
 const { Lines, lastNotGreater, LINE_END, LINE_END_OF_SCRIPT } = require('../common/lines.js');
 
@@ -24,7 +25,10 @@ class EditedText {
     this.originalLines = null;
   }
 
-  /** @param {Edit[]} edits */
+  /**
+   * Puts the changed text together, and notes for each piece where it starts in both texts. The edits are in ascending order.
+   * @param {Edit[]} edits
+   */
   assemble(edits) {
     /** @type {string[]} */
     const pieces = [];

@@ -1,5 +1,5 @@
 'use strict';
-// Import maps: their `integrity` would refuse instrumented scripts.
+// Import maps: their `integrity` would refuse instrumented scripts. So these hashes are dropped from `<script type=importmap>`.
 
 const acorn = require('/usr/share/nodejs/acorn');
 

@@ -96,6 +96,7 @@ function markClass({ variables, inserter, options }, statement, scope) {
 }
 
 /**
+ * The code at the start of a run: the call by which the page's half learns which script, module, handler or address begins.
  * @param {Options} options
  * @param {Program} program
  * @param {Scope} scope
@@ -141,6 +142,7 @@ function marksOf(code, options, program, top) {
 }
 
 /**
+ * All insertions into a text, in ascending order.
  * @param {string} code
  * @param {Options} options
  * @param {Program} program

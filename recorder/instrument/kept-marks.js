@@ -1,6 +1,7 @@
 'use strict';
 // Keeps the marks of scripts by their texts, in memory and in a folder (common/cache-folder.js): a script that was marked before is not read again. The
-// result is the same as that of `instrument`, with the numbers of this run: what a mark says of its place is kept apart from it.
+// result is the same as that of `instrument`, with the numbers of this run: what a mark says of its place is kept apart from it. A cache of instrumented code
+// over runs and recordings.
 
 const { createHash } = require('node:crypto');
 const fs = require('node:fs');
@@ -16,15 +17,16 @@ const { instrument } = require('./instrument.js');
  */
 
 /**
- * What `instrument` made of a text, with `\uE000NUMBER\uE001` in place of each site: the sites as they were asked for, the numbers of modules by the names that
- * were looked up, the names of the browser that were taken, and what was reported of functions and libraries; or why the text has no marks.
+ * What `instrument` made of a text, with `\uE000NUMBER\uE001` in place of each site and `\uE003NUMBER\uE001` in place of each module: the sites as they were
+ * asked for, the names of modules that were looked up and whether each has a number, the names of the browser that were taken, and what was reported of
+ * functions and libraries; or why the text has no marks.
  * @typedef {object} Kept
  * @property {Result['fault']} [fault]
  * @property {number[]} starts
  * @property {[index: number, end: number][]} ends of the edits that replace something
  * @property {string} inserts
  * @property {[offset: number, about?: About][]} sites
- * @property {[name: string, number: number|null][]} modules
+ * @property {[name: string, hasNumber: boolean][]} modules
  * @property {string[]} taken
  * @property {[start: number, end: number, name: string][]} named
  * @property {[start: number, end: number, name: string][]} libraries
@@ -37,8 +39,10 @@ const MOST_IN_MEMORY = 32 << 20;
 /** Written when nothing was marked for so many milliseconds, or when the process ends. */
 const QUIET = 2000;
 const SITE = /"?\uE000(\d+)\uE001"?/g;
+/** In a quoted list it is escaped (marks/quote.js). */
+const MODULE = /"?(?:\uE003|\\ue003)(\d+)(?:\uE001|\\ue001)"?/g;
 const BETWEEN = '\uE002';
-const OWN_SIGNS = /[\uE000-\uE002]/;
+const OWN_SIGNS = /[\uE000-\uE003]|\\ue003/;
 
 /**
  * The files of a folder and its folders.
@@ -87,9 +91,9 @@ function markAndNote(code, options) {
     ...options,
     site: (offset, about) => /** @type {any} */ (`\uE000${noted.sites.push(about ? [offset, about] : [offset]) - 1}\uE001`), // marks are texts
     numberOfModule: numberOfModule && ((name) => {
-      const number = numberOfModule(name);
-      noted.modules.push([name, number ?? null]);
-      return number;
+      const hasNumber = numberOfModule(name) !== undefined;
+      const index = noted.modules.push([name, hasNumber]) - 1;
+      return hasNumber ? /** @type {any} */ (`\uE003${index}\uE001`) : undefined; // marks are texts
     }),
     named: named && ((start, end, name) => { noted.named.push([start, end, name]); }),
     library: library && ((start, end, name) => { noted.libraries.push([start, end, name]); }),
@@ -107,15 +111,17 @@ function markAndNote(code, options) {
 }
 
 /**
- * What `instrument` answers, of what was kept, with sites of this run; null if modules have other numbers in it.
+ * What `instrument` answers, of what was kept, with sites and modules of this run; null if other names of modules have a number in it.
  * @param {Kept} kept
  * @param {Options} options
  * @returns {Result|null}
  */
 function resultOf({ fault, starts, ends, inserts, sites, modules, taken, named, libraries }, options) {
-  if (modules.some(([name, number]) => (options.numberOfModule?.(name) ?? null) !== number)) return null;
+  const others = modules.map(([name]) => options.numberOfModule?.(name));
+  if (modules.some(([, hasNumber], k) => hasNumber !== (others[k] !== undefined))) return null;
   const numbers = sites.map(([offset, about]) => options.site(offset, about));
-  const texts = inserts.replace(SITE, (_, number) => String(numbers[number])).split(BETWEEN);
+  const withSites = inserts.replace(SITE, (_, number) => String(numbers[number]));
+  const texts = (modules.length ? withSites.replace(MODULE, (_, number) => String(others[number])) : withSites).split(BETWEEN);
   const edits = starts.map((start, k) => ({ start, end: start, insert: texts[k] }));
   for (const [k, end] of ends) edits[k].end = end;
   options.builtins.takeNames?.(taken);
@@ -146,23 +152,42 @@ class KeptMarks {
    * @returns {Result}
    */
   instrument(code, options) {
-    const isKept = code.length >= SHORTEST && !OWN_SIGNS.test(code) && this.folder.folder !== null && options.builtins.signature;
-    if (!isKept) return instrument(code, options);
-    const key = keyOf(code, options);
+    const key = this.keyFor(code, options);
+    if (key === null) return instrument(code, options);
     const known = this.find(key);
     const result = known && resultOf(known, options);
     if (result) {
       this.hits++;
       return result;
     }
+    if (this.folder.folder === null) return instrument(code, options);
     this.misses++;
     const kept = markAndNote(code, options);
-    this.keep(key, kept);
-    this.writeSoon(key, kept);
+    this.keepNew(key, kept);
     return /** @type {Result} */ (resultOf(kept, options));
   }
 
   /**
+   * The key of a text whose marks can be kept, or null.
+   * @param {string} code
+   * @param {Options} options
+   */
+  keyFor(code, options) {
+    return code.length >= SHORTEST && !OWN_SIGNS.test(code) && options.builtins.signature ? keyOf(code, options) : null;
+  }
+
+  /**
+   * Keeps marks that were just made.
+   * @param {string} key
+   * @param {Kept} kept
+   */
+  keepNew(key, kept) {
+    this.keep(key, kept);
+    if (this.folder.folder !== null) this.writeSoon(key, kept);
+  }
+
+  /**
+   * The marks of a text by its key, from memory or from the folder; null if there are none. Those in memory that were used last stay longest.
    * @param {string} key
    * @returns {Kept|null}
    */

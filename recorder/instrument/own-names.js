@@ -1,6 +1,6 @@
 'use strict';
 // Names of the browser that a page takes for variables of its own: `var status`, `function find()`, `class Animation`. From then on they are global
-// variables like others, in all scripts of the page.
+// variables like others, in all scripts of the page. Before that, these are properties of the window, and no variables.
 
 const { digestOf } = require('../common/digest.js');
 const { addDeclared, addHoisted, addLexical } = require('./syntax/names.js');
@@ -40,6 +40,7 @@ function declaredNames({ body }) {
   return [...all].map((name) => ({ name, isVar: variables.has(name) }));
 }
 
+/** One for each run, made by `Sources`: it knows what the scripts that are instrumented by now have declared. */
 class BrowserNames {
   constructor() {
     /** @type {Set<string>} */

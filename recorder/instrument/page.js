@@ -89,6 +89,7 @@ function inPage(options, text, start) {
   };
 }
 
+/** Made by `Sources` for the text of each page, and of each `srcdoc`. */
 class PageRewriter {
   /**
    * @param {string} html
@@ -144,7 +145,10 @@ class PageRewriter {
     this.edits.push({ start: attribute.start, end: attribute.end, insert: text(() => []), again: text });
   }
 
-  /** @param {Tag} tag */
+  /**
+   * Changes the policy of a `<meta http-equiv=Content-Security-Policy>` so that it allows the instrumented texts of what it allows.
+   * @param {Tag} tag
+   */
   rewritePolicy(tag) {
     const content = attributeOf(tag, 'content');
     if (!content || !/^content-security-policy$/i.test(attributeOf(tag, 'http-equiv')?.value.trim() || '')) return;

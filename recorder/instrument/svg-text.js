@@ -1,5 +1,6 @@
 'use strict';
-// The code of a script in SVG. The browser reads it as markup, so that it may contain character references (`a &lt; b`) and CDATA sections.
+// The code of a script in SVG. The browser reads it as markup, so that it may contain character references (`a &lt; b`) and CDATA sections, which are
+// unescaped.
 
 const { encodeText } = require('./attribute-text.js');
 const { loadEntities } = require('./debian.js');

@@ -23,6 +23,9 @@ const ASKED = /, [a-z]+ at (\S+)(?: \((?:from (\S+)|via \S+)\))?$/;
 /** Events that report on the file of their element. */
 const AT_FILE = new Set(['load', 'error']);
 
+/** What comes before the path of an address, and before the last part of it. */
+const ORIGIN = /^\w+:\/\/[^/?#]*/;
+const FOLDERS = /^[^?#]*\/(?=[^/?#])/;
 /** So many requests are followed back from an action to code of the page's own. */
 const MOST_STEPS = 20;
 /** How an action comes from the one that requested it (races/actions.js). */
@@ -128,12 +131,13 @@ class Callbacks {
   }
 
   /**
-   * A script in words, without its place.
+   * A script in words; its place, if it has no file, only where two sides are told apart.
    * @param {string} number @returns {string}
    */
   script(number) {
     const file = this.elements.fileOf(number);
-    return file ? `script ${file}` : 'script';
+    if (file) return `script ${file}`;
+    return this.words.isApart ? this.words.script(number).replace(/^the /, '') : 'script';
   }
 
   /**
@@ -148,12 +152,12 @@ class Callbacks {
   }
 
   /**
-   * The last part of the address that a request is for.
+   * The last part of the address that a request is for; the whole path, where two sides are told apart.
    * @param {string} number
    */
   request(number) {
     const { address } = this.names.requests[number] || {};
-    return address ? shown(address.replace(/^[^?#]*\/(?=[^/?#])/, '')) : 'a request';
+    return address ? shown(address.replace(this.words.isApart ? ORIGIN : FOLDERS, '')) : 'a request';
   }
 
   /**
@@ -186,7 +190,8 @@ class Callbacks {
     const [word, , number, type] = dispatch?.words || [];
     if (word === 'reply') return ` of ${this.request(number)}`;
     const isOfFile = word === 'eload' || (AT_FILE.has(type) && (word === 'fire' || word === 'inline'));
-    return isOfFile && this.elements.fileOf(number) ? ` of ${this.elements.named(number)}` : '';
+    const file = isOfFile ? this.elements.fileOf(number) : '';
+    return file && ` of ${file}`;
   }
 
   // ---- in sentences
@@ -207,8 +212,10 @@ class Callbacks {
    * @returns {[string, string]}
    */
   subjects(one, other) {
-    for (const hasPlace of [false, true]) {
-      const [first, second] = [this.subject(one, hasPlace), this.subject(other, hasPlace)];
+    /** @type {(hasPlace: boolean) => [string, string]} */
+    const both = (hasPlace) => [this.subject(one, hasPlace), this.subject(other, hasPlace)];
+    for (const tell of [() => both(false), () => both(true), () => this.words.apart(() => both(true))]) {
+      const [first, second] = tell();
       if (first !== second) return [first, second];
     }
     return ['another one', `one run of ${this.subject(one, true)}`];

@@ -42,9 +42,9 @@ test('a handler that hears of a file is called by it, and runs of one callback a
   /** @type {Partial<Names>} */
   const facts = { elements: { 2: { tag: 'script', source: 'a.js' }, 3: { tag: 'script', source: 'b.js' } }, handlers: { 1: { type: 'load', place: [0, 2, 1] }, 2: { type: 'load', place: [0, 2, 1] } }, places: { 12: [0, 3, 3], 16: [0, 3, 3] } };
   const [head, first, second] = await listOf(lines, facts);
-  assert.match(head, /`total` keeps what is written last, by the load handler of script b\.js or by the load handler of script a\.js/);
-  assert.match(first, / load handler of script a\.js, registered at page\.html:2:1$/);
-  assert.match(second, / load handler of script b\.js, registered at page\.html:2:1$/);
+  assert.match(head, /`total` keeps what is written last, by the load handler of b\.js or by the load handler of a\.js/);
+  assert.match(first, / load handler of a\.js, registered at page\.html:2:1$/);
+  assert.match(second, / load handler of b\.js, registered at page\.html:2:1$/);
   const alike = await listOf(lines, { ...facts, elements: {} });
   assert.match(alike[0], /by one run of the load handler at page\.html:2:1 or by another one/);
 });

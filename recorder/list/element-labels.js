@@ -1,5 +1,6 @@
 'use strict';
 // What distinguishes an element without an id from others of its kind, for a reader of the list: the text after its tag in the page's source, or its classes.
+// It names an element that has none.
 
 const { shown } = require('../common/shown.js');
 
@@ -8,7 +9,10 @@ const LONGEST = 30;
 /** Tags that are longer, or go on over several lines, have no label. */
 const TAG = /^<([\w-]+)((?:\s+[^\s=>"']+(?:\s*=\s*(?:"[^"]*"|'[^']*'|[^\s>"']+))?)*)\s*\/?>([^<]*)/;
 const CLASS = /\sclass\s*=\s*(?:"([^"]*)"|'([^']*)'|([^\s>"']+))/i;
-/** @type {{[name: string]: string}} */
+/**
+ * Character references of HTML (`&amp;`) that the text of an element can have.
+ * @type {{[name: string]: string}}
+ */
 const CHARACTERS = { amp: '&', lt: '<', gt: '>', quot: '"', '#39': "'", nbsp: ' ' };
 
 /**

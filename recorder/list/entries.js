@@ -1,5 +1,6 @@
 'use strict';
-// What the list says of a problem: the sentence, the two sides with what else has the same two places, what a replay found, and the stable name.
+// What the list says of a problem: the sentence, the two sides with what else has the same two places, what a replay found, and the stable name. One entry of
+// the printed report.
 
 const { ASKED } = require('./callbacks.js');
 const { Sides, summaryOf } = require('./sides.js');
@@ -44,6 +45,7 @@ function also(own, texts) {
   return `(also ${told.join(', ')}${texts.length > MOST_NAMED ? ', ..' : ''})`;
 }
 
+/** Made by the list, and (`LoadEntries`) by that over many loads. */
 class Entries {
   /** @param {Listing} listing @param {Folder|null} folder the folder that was served */
   constructor(listing, folder) {

@@ -1,5 +1,6 @@
 'use strict';
-// A usual change for each pattern, for the page's author: what the list, the view, `--json` and SARIF say. It depends on what is looked up or used, and by whom.
+// A usual change for each pattern, for the page's author: what the list, the view, `--json` and SARIF say. It depends on what is looked up or used, and by
+// whom. A suggestion how to fix the bug.
 
 /** @typedef {import('./patterns/table.js').LookKey} LookKey */
 /**

@@ -1,5 +1,5 @@
 'use strict';
-// The list as one object for other tools (docs/ci.md).
+// The list as one object for other tools (docs/ci.md). The output of `--json`: its members and `format`.
 
 const { placesOf, plainPlace } = require('./places.js');
 
@@ -34,7 +34,10 @@ function plainRace(problems, race, run, folder) {
   };
 }
 
-/** @param {Listing} listing @param {Listed} problem @param {number} index @param {{failing: Set<Listed>, lines: Set<Listed>}} sets @param {Folder|null} folder */
+/**
+ * A problem as `--json` has it: an item of `problems`.
+ * @param {Listing} listing @param {Listed} problem @param {number} index @param {{failing: Set<Listed>, lines: Set<Listed>}} sets @param {Folder|null} folder
+ */
 function plainProblem(listing, problem, index, { failing, lines }, folder) {
   const { name, look, words, isKnown, runs, orders, seen } = problem;
   const names = [...seen].map(([one, { runs: inRuns, orders: own }]) => ({ name: one, runs: inRuns, bothOrders: own === BOTH_ORDERS }));
@@ -68,7 +71,10 @@ function replayOf(listing, problem) {
   return found ? { replay: { race: found.race, verdict: found.verdict, differs: !!found.effect, effect: found.effect, sentence: found.sentence, words: found.words } } : {};
 }
 
-/** @param {Listing} listing @param {ListFacts} facts */
+/**
+ * The one object that `--json` prints.
+ * @param {Listing} listing @param {ListFacts} facts
+ */
 function plainListing(listing, { page, status, files, folder, loads }) {
   const sets = { failing: new Set(listing.failing()), lines: new Set(listing.lines) };
   return {

@@ -1,6 +1,6 @@
 'use strict';
-// The file of known problems (races.known, --known): in each line a name and its words. A malformed line is a KnownFault; names that no problem has any more are
-// `notSeen` (stale). Lines that begin with # are comments and keep their position.
+// The file of known problems (races.known, --known) and its format: in each line a name and its words. A malformed line is a KnownFault; names that no problem
+// has any more are It is a baseline: what it lists is not new. `notSeen` (stale). Lines that begin with # are comments and keep their position.
 
 const fs = require('node:fs');
 
@@ -16,6 +16,7 @@ const OLD_HEAD = '# Races that are known (./er_page --known, docs/viewing.md): a
 
 class KnownFault extends Error {}
 
+/** Made by each command that prints a list (`Known.of`). */
 class Known {
   /** @param {string} text the content of the file; throws a KnownFault that names the first bad line @param {string} file */
   constructor(text, file) {

@@ -1,6 +1,7 @@
 'use strict';
 // Stable names of races and problems: the same in each recording of the page, also if lines were added above or a build renamed files.
-// A race's name is that of its problem and a second part, so whoever knows the problem knows the race.
+// A race's name is that of its problem and a second part, so whoever knows the problem knows the race. They identify a problem, by the text of its code and not
+// by line numbers: a hash.
 
 const { createHash } = require('node:crypto');
 const { FIRST_MODULE, FIRST_OBJECT } = require('../common/numbers.js');
@@ -41,6 +42,7 @@ function orderOf([first, second]) {
 /** @param {string[]} sides those of a race, which has two */
 const inOrder = ([first, second]) => (first <= second ? [first, second] : [second, first]);
 
+/** Made for each trace in a list. */
 class LastingNames extends Keys {
   /** @param {string} text a trace @param {Names} names */
   constructor(text, names) {

@@ -25,6 +25,7 @@ const { partOf, rankOf, sortByRank } = require('./rank.js');
  * @typedef {{line: Listed, others: Listed[]}} Line
  */
 
+/** Made for each list: by page-races.js, view.js and replay-race.js; LoadsListing extends it. */
 class Listing {
   /**
    * @param {Problems[]} runs
@@ -44,6 +45,7 @@ class Listing {
     const covered = this.coveredByKnown();
     /** Those with a line: no other problem's line covers them. */
     this.lines = this.problems.filter((one) => one.hasLine || (!one.isKnown && covered.has(one.name)));
+    this.lineNames = new Set(this.lines.map(({ name }) => name));
   }
 
   /**
@@ -101,7 +103,10 @@ class Listing {
     return this.byName[run].get(name);
   }
 
-  /** @returns {Listed[]} */
+  /**
+   * The problems of all runs, each once, by their stable names.
+   * @returns {Listed[]}
+   */
   merge() {
     /** @type {Map<string, Listed>} */
     const all = new Map();
@@ -201,13 +206,32 @@ class Listing {
   }
 
   /**
-   * How many races a line stands for: those of its groups.
+   * The name of the problem in whose line a race is: its own, or the one that covers it. So each race is in one line.
+   * @param {number} run @param {number} race its index
+   */
+  lineOfRace(run, race) {
+    const { ofRaces, leads, report } = this.runs[run];
+    const { problem } = ofRaces[race];
+    return this.lineNames.has(problem) ? problem : ofRaces[leads[report.races[race].group - 1]].problem;
+  }
+
+  /**
+   * How many races are in the line of a problem: its own, and those that it covers of problems without a line.
    * @param {Listed} problem
    */
-  size({ name, races, run }) {
-    const { report } = this.runs[run];
-    const groups = (this.problemOf(run, name)?.groups || []).map((group) => report.groups[group]);
-    return groups.reduce((sum, { size }) => sum + size, 0) || races.length;
+  size({ name, run }) {
+    const { counts, covered } = this.runs[run];
+    const others = [...covered.get(name) || []].filter(([other]) => !this.lineNames.has(other));
+    return others.reduce((sum, [, count]) => sum + count, counts.get(name) || 0);
+  }
+
+  /**
+   * All lines for the view, in the order of the list, what is known last: the section of each, and its problems, first the one whose words it has.
+   * @returns {{part: string, isKnown: boolean, problems: Listed[]}[]}
+   */
+  inOrder() {
+    const told = this.told().map(({ line, others }) => ({ part: this.partOf(line), isKnown: false, problems: [line, ...others] }));
+    return [...told, ...this.knownLines().map((line) => ({ part: this.partOf(line), isKnown: true, problems: [line] }))];
   }
 
   /**

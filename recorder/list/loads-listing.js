@@ -1,5 +1,5 @@
 'use strict';
-// The list over many page loads of a test suite: each problem once, with the loads in which it was seen.
+// The list over many page loads of a test suite: each problem once, with the loads in which it was seen. It merges all loads.
 
 const { Entries } = require('./entries.js');
 const { Listing } = require('./listing.js');
@@ -41,6 +41,7 @@ class LoadEntries extends Entries {
   }
 }
 
+/** Made by loads.js, for `er_suite` and for `er_page` with several pages. */
 class LoadsListing extends Listing {
   /**
    * @param {LoadRun[]} runs
@@ -63,14 +64,6 @@ class LoadsListing extends Listing {
   seenInWords({ runs, orders }) {
     const both = orders.size > 1 ? ', in both orders' : '';
     return `seen in ${runs.length} of ${this.runs.length} loads${both}: ${this.views[runs[0] - 1]}`;
-  }
-
-  /**
-   * How many races a line stands for; a load has not stored each of them.
-   * @param {Listed} problem
-   */
-  size(problem) {
-    return this.loads[problem.run].counts.get(problem.name) ?? super.size(problem);
   }
 
   /** How many lines each load has, new ones and known ones. */

@@ -49,6 +49,7 @@ function loadRow(load, number, file, { fresh, known }) {
 }
 
 /**
+ * The HTML of the page, which loads.js writes.
  * @param {LoadsListing} listing
  * @param {import('./types').Load[]} loads
  * @param {string[]} links each load's view, relative to the page

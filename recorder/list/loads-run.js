@@ -29,10 +29,10 @@ const keyOf = (place) => place.join(' ');
 const accessOf = (line, action) => `${line} ${action}`;
 
 /**
- * What is stored of a load: plain data, which another process can send. `counts` says how many races each problem without a group has; `shown` is by the
+ * What is stored of a load: plain data, which another process can send. `counts` and `covered` have numbers of races, as in `Problems`; `shown` is by the
  * accesses of the race, `said` by the name of the problem.
  * @typedef {{report: {races: Race[], groups: {race: number, size: number}[]}, ofRaces: NamedRace[], leads: number[], list: Problem[], counts: Map<string, number>,
- *   leftOut: Problems['leftOut'], ofLibraries: Problems['ofLibraries'], notComplete: string[], unmarked: Problems['unmarked'], shown: Map<string, Shown>,
+ *   covered: Problems['covered'], leftOut: Problems['leftOut'], ofLibraries: Problems['ofLibraries'], notComplete: string[], unmarked: Problems['unmarked'], shown: Map<string, Shown>,
  *   said: Map<string, Said>, names: {files: {address: string}[], documents: {0: {address: string}}, page: string}}} LoadFacts
  * @typedef {{name: string, problem: string, order: number, ownOrder: number, look: Problem['look']}} NamedRace
  */
@@ -40,12 +40,13 @@ const accessOf = (line, action) => `${line} ${action}`;
 /** The load in the place of `Problems`: it has the members that `Listing`, JSON, SARIF and JUnit read. */
 class LoadRun {
   /** @param {LoadFacts} facts */
-  constructor({ report, ofRaces, leads, list, counts, leftOut, ofLibraries, notComplete, unmarked, shown, said, names }) {
+  constructor({ report, ofRaces, leads, list, counts, covered, leftOut, ofLibraries, notComplete, unmarked, shown, said, names }) {
     this.report = report;
     this.ofRaces = ofRaces;
     this.leads = leads;
     this.list = list;
     this.counts = counts;
+    this.covered = covered;
     this.leftOut = leftOut;
     this.ofLibraries = ofLibraries;
     this.notComplete = notComplete;
@@ -99,6 +100,7 @@ function wordsOf(shown) {
 }
 
 /**
+ * The words and places of a race, as a list shows them without the load's texts.
  * @param {Problems} problems
  * @param {number} race
  * @param {(text: string) => string} copy
@@ -189,6 +191,7 @@ class LoadRuns {
   }
 
   /**
+   * What a list over many loads keeps of one, as a plain value that another process can send.
    * @param {Problems} problems
    * @param {number[]} kept the races that stay, in ascending order
    * @param {number[]} inWords those of them that are shown in words
@@ -196,7 +199,7 @@ class LoadRuns {
    * @returns {LoadFacts}
    */
   storedOf(problems, kept, inWords, named) {
-    const { report, ofRaces, leads, list, names, leftOut, ofLibraries, notComplete, unmarked } = problems;
+    const { report, ofRaces, leads, list, counts, covered, names, leftOut, ofLibraries, notComplete, unmarked } = problems;
     const copy = (/** @type {string} */ text) => this.copy(text);
     /** @type {Numbers} */
     const numbers = new Map(kept.map((race, k) => [race, k]));
@@ -213,7 +216,8 @@ class LoadRuns {
       }),
       leads: leads.map(numberOf),
       list: list.map((one) => this.problem(one, numbers)),
-      counts: new Map(list.filter(({ groups }) => !groups.length).map(({ name, races }) => [copy(name), races.length])),
+      counts: this.shared(counts),
+      covered: this.shared(covered),
       leftOut,
       ofLibraries,
       notComplete: notComplete.map(copy),

@@ -1,5 +1,7 @@
 'use strict';
-// Which pattern a race has (patterns/accesses.js, all: patterns/table.js), from the trace and its names alone: it is a reader's first hint, and decides nothing.
+// Which pattern a race has (patterns/accesses.js, all: patterns/table.js), from the trace and its names alone: it is a reader's first hint, and decides
+// nothing. As a late handler, a use before the definition (no lazy initialization), overwriting replies (a late response to an older request), a counter, a
+// flag.
 
 const { FIRST_FIELD, FIRST_MODULE } = require('../common/numbers.js');
 const { isOfTree } = require('../races/spelled-locations.js');
@@ -26,6 +28,7 @@ function isField(location) {
   return location.startsWith('var') && number >= FIRST_FIELD && number < FIRST_MODULE && !isOfTree(location);
 }
 
+/** A part of `Problems`. */
 class Looks {
   /**
    * @param {import('./types').Report} report
@@ -68,7 +71,10 @@ class Looks {
     else if (known.length === 1 && known[0].location !== race.location) known.push(race);
   }
 
-  /** @param {import('./types').Names} names */
+  /**
+   * Finds the intervals (`setInterval`) and the first tick of each.
+   * @param {import('./types').Names} names
+   */
   readIntervals(names) {
     this.actions.lines.forEach((/** @type {string} */ line, /** @type {number} */ k) => {
       if (!line.startsWith('every ')) return;

@@ -5,6 +5,7 @@ const MOST_TOLD = 4;
 
 /** @typedef {import('./types').Race} Race */
 
+/** A part of `Problems`. */
 class ProblemWords {
   /** @param {import('../races/words.js').Words} words @param {Race[]} races */
   constructor(words, races) {

@@ -1,5 +1,6 @@
 'use strict';
-// Problems of one recording: the races of one key (`nameRace` in lasting.js: location and both places) are one. Each race is in exactly one problem.
+// Problems of one recording: the races of one key (`nameRace` in lasting.js: location and both places) are one. Each race is in exactly one problem. Duplicates
+// are merged (deduplicated) into one entry.
 
 const { isOfTree } = require('../races/spelled-locations.js');
 const { LastingNames } = require('./lasting.js');
@@ -22,6 +23,7 @@ const { ProblemWords, listed } = require('./problem-words.js');
 /** Locations that many writes change in parts. */
 const IN_PARTS = / (?:\([a-z]+\)|content|style|class|length)$/;
 
+/** Made by view.js for each analyzed trace. */
 class Problems {
   /**
    * @param {string} text the trace
@@ -43,6 +45,9 @@ class Problems {
     this.leads = report.groups.map(({ race }) => race - 1);
     report.races.forEach((race, k) => this.mayLead(race, k));
     this.list = this.fold();
+    /** How many races each problem has, by its name. */
+    this.counts = new Map(this.list.map(({ name, races }) => [name, races.length]));
+    this.covered = this.countCovered();
     /** What was left out of the trace since the program cannot take it. */
     this.leftOut = (names.leftOut || []).map(({ location, accesses, pairs }) => ({ location, words: `"${this.words.location(location).text}"`, accesses, pairs }));
     /** What only libraries touch, counted: it is left out of the trace. */
@@ -53,7 +58,10 @@ class Problems {
     this.unmarked = names.unmarked || [];
   }
 
-  /** @returns {Problem[]} */
+  /**
+   * Merges the races into problems, by the problem's name, and sorts these by their patterns.
+   * @returns {Problem[]}
+   */
   fold() {
     /** @type {Map<string, Folded>} */
     const problems = new Map();
@@ -165,6 +173,24 @@ class Problems {
    */
   isReplaced({ location, modes, lines, actions }) {
     return modes === 'ww' && location.startsWith('var ') && !IN_PARTS.test(location) && lines.every((line, k) => !this.accesses.isUpdate(line, actions[k], location));
+  }
+
+  /**
+   * How many races of problems without a line each other problem covers: by its name, and by theirs.
+   * @returns {Map<string, Map<string, number>>}
+   */
+  countCovered() {
+    const withLine = new Set(this.lines().map(({ name }) => name));
+    /** @type {Map<string, Map<string, number>>} */
+    const covered = new Map();
+    this.report.races.forEach(({ group }, k) => {
+      const { problem } = this.ofRaces[k];
+      if (withLine.has(problem)) return;
+      const lead = this.ofRaces[this.leads[group - 1]].problem;
+      const counts = covered.get(lead) || new Map();
+      covered.set(lead, counts.set(problem, (counts.get(problem) || 0) + 1));
+    });
+    return covered;
   }
 
   /** The problems with a line of their own: those that have the first race of a group, and what is lost and covered by it. */

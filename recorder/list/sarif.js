@@ -87,6 +87,7 @@ function uriOfPage({ names }, page, folder) {
 }
 
 /**
+ * A problem as a `result` of SARIF.
  * @param {Listing} listing
  * @param {Listed} problem
  * @param {SarifFacts} facts

@@ -1,5 +1,6 @@
 'use strict';
-// The two sides of a race as the list shows them: what each does, to what, where, and in which callback. Stable names are made from other texts.
+// The two sides of a race as the list shows them: what each does, to what, where, and in which callback. Stable names are made from other texts. The reader and
+// the writer, or two writers.
 
 const { FIRST_FIELD, FIRST_OBJECT } = require('../common/numbers.js');
 const { shown } = require('../common/shown.js');
@@ -33,6 +34,7 @@ const NAME = /^[\w$.]+$/;
  */
 const marked = (text) => (text.includes(' ') ? `the ${text}`.replace(/^the the /, 'the ') : `\`${text}\``);
 
+/** A part of `Entries`. */
 class Sides {
   /**
    * @param {Problems} problems

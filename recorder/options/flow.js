@@ -1,5 +1,6 @@
 'use strict';
-// A user flow that the Recorder panel of Chrome DevTools exported, as steps. The format is that of @puppeteer/replay.
+// A user flow that the Recorder panel of Chrome DevTools exported, as steps. The format is that of @puppeteer/replay. The JSON is validated: what no flow has
+// is refused.
 
 const fs = require('node:fs');
 const path = require('node:path');
@@ -88,6 +89,7 @@ function flowStep(given, from) {
 }
 
 /**
+ * The steps of a recorded flow, checked; a fault is a UsageFault with the number of the step.
  * @param {string} name of the option
  * @param {string} file
  * @param {string} content

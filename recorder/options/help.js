@@ -20,7 +20,8 @@ const USER_AND_NETWORK = `User and network:
   --seed N          seed for --clicks (1)
   --avoid REGEX     with --clicks: click nothing whose text or name matches; "none" avoids
                     nothing (delete, log out, quit, reset, stop and others)
-  --slow MS         delay each file by up to MS milliseconds, the same in each run
+  --slow MS         delay each file except pages by up to MS milliseconds, the same in
+                    each run
   --time SECONDS    stop if load takes over SECONDS, or if what follows load takes over
                     SECONDS, and use what came until then (30)
   --root DIR        folder to serve if URL is a file (the file's own folder)

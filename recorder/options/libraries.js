@@ -1,5 +1,5 @@
 'use strict';
-// The files of well-known libraries.
+// The files of well-known libraries. jQuery, React, Angular, lodash, .. by their file names: the default of `--libraries`.
 
 const NAMES = [
   'jquery', 'react', 'vue', 'angular', 'bootstrap', 'popper', 'underscore', 'lodash', 'backbone', 'prototype', 'effects', 'controls', 'scriptaculous',

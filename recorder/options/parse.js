@@ -1,5 +1,6 @@
 'use strict';
-// Parses the arguments of a command by a table of its options.
+// Parses the arguments of a command by a table of its options. An option that is given twice is taken twice: its row replaces the value, or adds to a list. An
+// unknown option is a UsageFault.
 
 const { parseArgs } = require('node:util');
 

@@ -1,5 +1,6 @@
 'use strict';
-// What the arguments of a command have that no file and no output may have.
+// What the arguments of a command have that no file and no output may have. Cookies, headers, passwords of `--http-credentials` and of typed password fields,
+// and what `--redact` matches.
 
 const { tokensOf } = require('../common/address.js');
 const { keepSecret, keepHeader, keepCredentials, SHORTEST_FOUND } = require('../common/secrets.js');

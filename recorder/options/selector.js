@@ -1,5 +1,6 @@
 'use strict';
-// Selectors of --do in Playwright's spelling, and of flows in that of Chrome DevTools' Recorder panel: how an element is found.
+// Selectors of --do in Playwright's spelling, and of flows in that of Chrome DevTools' Recorder panel: how an element is found. `text=..`,
+// `role=button[name=".."]`, `xpath=..`, CSS.
 
 /**
  * @typedef {import('../browser/input/selectors.js').Part} Part

@@ -32,6 +32,7 @@ function cookieOf({ name, value, domain, path, expires, httpOnly, secure, sameSi
 }
 
 /**
+ * Reads and checks the JSON of a stored state. What does not fit is a UsageFault.
  * @param {string} name of the option
  * @param {string} text
  * @returns {StorageState}

@@ -1,4 +1,5 @@
-// Frames (iframes, also nested ones): a frame of the same origin joins the recording and the log of the page around it, and its document gets a number.
+// Frames (iframes, also nested ones): a frame of the same origin joins the recording and the log of the page around it, and its document gets a number. A frame
+// of another origin (cross-origin) is not recorded: it has no access to its parent's recorder.
 
 import { findItem } from './core/lists.js';
 import { settings } from './core/settings.js';

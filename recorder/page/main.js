@@ -58,6 +58,7 @@ function isFirstOfOpened(window) {
 }
 
 /**
+ * Makes the recorder of a document, and puts `__er` into its window. A frame of another origin gets helpers that record nothing.
  * @param {PageWindow} window
  * @param {Send} send
  * @param {'parser'} [maker] of what is in the document by now

@@ -1,4 +1,5 @@
-// The recorder of one document, with all its parts.
+// The recorder of one document, with all its parts. All modules are made and started here. Hooks hide: `Function.prototype.toString` shows the browser's text
+// of a replaced function.
 
 import { each, findItem, keep } from './core/lists.js';
 import { withoutMarks } from './core/marks.js';
@@ -34,6 +35,7 @@ import { Navigations } from './events/navigations.js';
 import { OnHandlers } from './events/on-handlers.js';
 import { Queued } from './events/queued.js';
 import { Addresses } from './scripts/addresses.js';
+import { Broken } from './scripts/broken.js';
 import { InOrder } from './scripts/in-order.js';
 import { InsertedModules } from './scripts/inserted-modules.js';
 import { Insertions } from './scripts/insertions.js';
@@ -52,6 +54,7 @@ import { Timers } from './tasks/timers.js';
 import { documentOf } from './core/things.js';
 import { numberOfFrame } from './frames.js';
 
+/** Made by main.js for the top document and each frame of its origin. */
 class Page {
   /**
    * @param {import('./types').PageWindow} window
@@ -110,6 +113,7 @@ class Page {
     this.messages = new Messages(this);
     this.reactions = new Reactions(this);
     this.scripts = new Scripts(this);
+    this.broken = new Broken(this);
     this.modules = new Modules(this);
     this.insertedModules = new InsertedModules(this);
     this.addresses = new Addresses(this);
@@ -132,7 +136,10 @@ class Page {
     this.shadows = new Shadows(this);
   }
 
-  /** @param {'parser'|undefined} maker of what is in it by now */
+  /**
+   * Starts all parts: from now on their hooks are in place. `main.js` calls it before any script of the document.
+   * @param {'parser'|undefined} maker of what is in it by now
+   */
   start(maker) {
     const { recording } = this;
     recording.pages = keep(recording.pages, (page) => page.window !== this.window);

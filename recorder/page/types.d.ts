@@ -272,6 +272,7 @@ export type Recording = import('./recording/recording').Recording;
 export type Objects = import('./objects/objects').Objects;
 export type Holder = import('./objects/holders').Holder;
 export type Variable = import('./objects/holders').Variable;
+export type Messages = import('./events/messages').Messages;
 export type Natives = ReturnType<typeof import('./core/natives').takeNatives>;
 
 declare global {

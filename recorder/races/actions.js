@@ -1,5 +1,5 @@
 'use strict';
-// The actions of a trace, each with the actions from which it comes. This says nothing about order.
+// The actions of a trace, each with the actions from which it comes. This says nothing about order. A graph of what requested or created what.
 
 const { RECORDS: TABLE, BEGINS, DISPATCHES, NOTES } = require('../trace/records.js');
 
@@ -7,6 +7,7 @@ const { RECORDS: TABLE, BEGINS, DISPATCHES, NOTES } = require('../trace/records.
 const RECORDS = TABLE;
 
 /**
+ * Made for a trace by `NamedRun` and by view/why.js.
  * @typedef {object} Action
  * @property {number} number
  * @property {number} line

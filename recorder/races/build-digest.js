@@ -1,5 +1,6 @@
 'use strict';
-// The digest that a build puts into a file's name, as `index-BxK3a_9Q.js`: it changes with each build, so no stable name contains it.
+// The digest that a build puts into a file's name, as `index-BxK3a_9Q.js`: it changes with each build, so no stable name contains it. The hashes of webpack,
+// Parcel, esbuild, Angular and others.
 
 /** Six hexadecimal digits and more with a decimal one (webpack, Parcel), anywhere in an address between `-` or `.` and `.`. */
 const HEXADECIMAL = /([.-])(?=[0-9a-f]*\d)[0-9a-f]{6,}(?=\.)/gi;

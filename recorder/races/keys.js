@@ -1,5 +1,6 @@
 'use strict';
-// Keys of the accesses and actions of a run, by which they are found in another run of the page.
+// Keys of the accesses and actions of a run, by which they are found in another run of the page. The same callback, event handler, timer or request is found
+// again by its place, name and count.
 
 const { NamedRun } = require('./named-run.js');
 const { isByValue, nameOf } = require('./spelled-locations.js');
@@ -7,6 +8,7 @@ const { isByValue, nameOf } = require('./spelled-locations.js');
 /** @typedef {import('./types').Found} Found */
 /** @typedef {import('./actions.js').Action} Action */
 
+/** Made for each trace that is compared with another run, as in replays. */
 class Keys extends NamedRun {
   /**
    * @param {string} text a trace
@@ -97,7 +99,10 @@ class Keys extends NamedRun {
     return found;
   }
 
-  /** @param {string} name */
+  /**
+   * All accesses whose location has this name, each with its key, its action and its line in the trace (from 1).
+   * @param {string} name
+   */
   findAccesses(name) {
     /** @type {[key: string, action: number, line: number][]} */
     const found = [];
@@ -159,6 +164,7 @@ class Keys extends NamedRun {
     return this.byKey.get(actionKey) || [];
   }
 
+  /** The actions by their keys: several can have one. */
   sortByKey() {
     /** @type {Map<string, number[]>} */
     const byKey = new Map();

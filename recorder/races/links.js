@@ -1,5 +1,6 @@
 'use strict';
-// Links between actions, as the analyzer prints them when it explains why one action is before another. The view shows only these.
+// Links between actions, as the analyzer prints them when it explains why one action is before another. The view shows only these. Happens-before edges and
+// paths.
 
 const { eachAtOnce } = require('../common/at-once.js');
 const { answersAtOnce, runProgram } = require('./program.js');

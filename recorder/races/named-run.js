@@ -17,6 +17,7 @@ const DECLARES = new Set(['on', 'set', 'every', 'send', 'ask', 'post']);
 /** A name contains that of the code that requested the thing, and so on: the inner one is shortened. */
 const shortened = (/** @type {string} */ name) => createHash('md5').update(name).digest('hex').slice(0, 12);
 
+/** The base of `Keys`, and so of `LastingNames`. */
 class NamedRun {
   /**
    * @param {string} text a trace
@@ -198,6 +199,7 @@ class NamedRun {
   }
 
   /**
+   * The name of an action, by the word with which it begins in the trace.
    * @param {Action} action
    * @returns {string}
    */

@@ -1,5 +1,5 @@
 'use strict';
-// Calls the analyzer (built, or unproved.js): queries about a trace. Nothing else here decides what races.
+// Calls the analyzer (built, or unproved.js): queries about a trace. Nothing else here decides what races. It is spawned as a child process.
 
 const { spawn, spawnSync } = require('node:child_process');
 const fs = require('node:fs');
@@ -55,6 +55,7 @@ function useProgram(facts) {
 const whyNot = ({ code, message }) => (code === 'ENOENT' ? 'there is no such file (the variable ER_CLI names the analyzer)' : message);
 
 /**
+ * Runs the analyzer on a trace, which is its standard input. It never fails: a program that cannot be run has a status too.
  * @param {string[]} args
  * @param {string} traceFile
  * @returns {Promise<Output>}

@@ -1,5 +1,6 @@
 'use strict';
-// Places in the page's own text, by the text there: a line can move, and its text still identifies it.
+// Places in the page's own text, by the text there: a line can move, and its text still identifies it. So what identifies a race stays when line numbers
+// change.
 
 const { splitLines } = require('../common/lines.js');
 const { withoutDigest } = require('./build-digest.js');
@@ -24,6 +25,7 @@ const shortAddress = (/** @type {string|undefined} */ address) => (address || ''
 const lastingAddress = (/** @type {string|undefined} */ address) => withoutDigest(shortAddress(address));
 const withoutBlanks = (/** @type {string} */ text) => text.trim().replace(/\s+/g, ' ');
 
+/** Made for the names of a trace. */
 class SourceText {
   /** @param {import('./types').NamesOfTrace} names */
   constructor(names) {

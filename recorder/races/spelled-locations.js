@@ -20,7 +20,7 @@ const withoutKeys = (name) => name.replace(/^\[object%20\d+\]$/, '[object]');
 const nameOf = (kind, spelled) => (kind === 'slot' ? spelled.replace(/\/\d+$/, '') : withoutKeys(spelled));
 
 /**
- * Splits a location. The number is that of a document or an object.
+ * Splits a location of the trace into its kind (`var`, `elem`, ..), its number and its name. The number is that of a document or an object.
  * @param {string} location
  */
 function partsOf(location) {

@@ -17,6 +17,7 @@ const WHOLES = { '(all)': 'the bytes', '(names)': 'the set of keys', '(items)': 
 /** Actions at an element, whose number is their second. */
 const AT_ELEMENT = new Set(['parse', 'fire', 'inline', 'eload']);
 
+/** The base of `Words`. */
 class ThingWords {
   /**
    * @param {NamesOfTrace} names

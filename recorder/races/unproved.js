@@ -23,6 +23,7 @@ function keyOf({ words, trace }) {
   return `${words.join(' ')} ${createHash('sha256').update(fs.readFileSync(trace)).digest('hex')}`;
 }
 
+/** Made once, by program.js, if there is no built analyzer. */
 class Unproved {
   constructor() {
     /** @type {Map<string, Output>} the answers that came, by query */

@@ -1,5 +1,6 @@
 'use strict';
-// Analyzes a trace that can be too large: the locations with the most pairs are left out of it until it is not refused for its size.
+// Analyzes a trace that can be too large: the locations with the most pairs are left out of it until it is not refused for its size. The program refuses too
+// many pairs.
 
 const fs = require('node:fs');
 const { jsonText } = require('../common/shown.js');

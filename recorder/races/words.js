@@ -1,5 +1,5 @@
 'use strict';
-// Actions and races in words, with the places in the page's source.
+// Actions and races in words, with the places in the page's source. Sentences that describe a race.
 
 const { FIRST_FOREIGN_TIMEOUT } = require('../common/numbers.js');
 const { shown } = require('../common/shown.js');
@@ -23,6 +23,7 @@ const INTERVALS = {
 const NO_RUN = new Set(['fire', 'wfire', 'inline', 'dcl', 'load', 'eload', 'parse', 'message']);
 const ORDINALS = ['first', 'second', 'third', 'fourth', 'fifth', 'sixth', 'seventh', 'eighth', 'ninth', 'tenth'];
 
+/** Made for a whole trace: by the list and replays as a part of `NamedRun`, by the view for its model. */
 class Words extends ThingWords {
   /**
    * @param {import('./types').NamesOfTrace} names
@@ -236,6 +237,7 @@ class Words extends ThingWords {
     return this.nths[number];
   }
 
+  /** By action: how many earlier ones have the same words, so that these can be told apart (`the second ..`). */
   countActions() {
     /** @type {number[]} */
     const nths = [];

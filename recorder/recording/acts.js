@@ -1,5 +1,6 @@
 'use strict';
-// The acts of the user in a recording: the steps of --do, those of an earlier run, and the clicks that the seed chooses.
+// The acts of the user in a recording: the steps of --do, those of an earlier run, and the clicks that the seed chooses. Random clicks come by `--clicks N` and
+// `--seed`.
 
 const { whyNoTarget } = require('../browser/input/fields.js');
 const { numberOfAct } = require('../common/numbers.js');
@@ -25,6 +26,7 @@ const longestSearch = (act) => ('given' in act && act.given?.timeout) || LONGEST
 /** @param {number} count @param {string} what */
 const counted = (count, what) => `${count} ${what}${count === 1 ? '' : 's'}`;
 
+/** Made by recorder.js for the acts of one recording. */
 class Acts {
   /**
    * @param {import('./session.js').Session} session

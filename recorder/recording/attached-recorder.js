@@ -1,5 +1,6 @@
 'use strict';
-// Records what another program drives: the page that the first tab of a running Chromium loads next, until the driver ends it or loads another one.
+// Records what another program drives: the page that the first tab of a running Chromium loads next, until the driver ends it or loads another one. `er_record
+// --attach`.
 
 const { printError } = require('../common/output.js');
 const { BrowserFault } = require('../browser/protocol.js');
@@ -19,6 +20,7 @@ const IS_TAKEN = `(() => {
 const IS_READY = `void Object.defineProperty(globalThis, '${MARK}', { value: true, configurable: true })`;
 const GIVE_BACK = `delete globalThis.${MARK}`;
 
+/** Made by record.js for `--attach`. */
 class AttachedRecorder extends Session {
   /**
    * @param {string} given how the user named the browser
@@ -87,6 +89,7 @@ class AttachedRecorder extends Session {
     await this.tab?.close().catch(() => {}); // the tab has gone
   }
 
+  /** Waits until the driver loads a page, and then until it ends, loads another page, or the time is over. */
   async waitForDriver() {
     await this.openTab().evaluate(IS_READY).catch(() => {}); // the driver has loaded a page already
     printError(`er_record: attached to ${this.given}: the page that its first tab loads next is recorded`);

@@ -20,6 +20,7 @@ const LATE = 150;
 const SENDS_NOTHING = /^(Window|(HTML|XML)?Document|DocumentFragment|ShadowRoot|HTML\w+|SVG\w+|XMLHttpRequest(Upload)?|MediaQueryList|AbortSignal|Performance|Screen|ScreenOrientation|VisualViewport|FontFaceSet|MessagePort|History|Navigation|EventTarget|Object)$/;
 const SENDING_REQUEST = /^(EventSource|WebSocket|FileReader|IDB)/;
 
+/** Made by session.js; rest.js asks it. */
 class Awaited {
   /** @param {import('../trace/intake.js').Intake} log of a run that is under way */
   constructor(log) {
@@ -46,6 +47,7 @@ class Awaited {
   }
 
   /**
+   * Takes a line of the log: what it schedules is awaited, until a line begins it. `now` is in milliseconds.
    * @param {string} text
    * @param {number} now
    */

@@ -1,7 +1,7 @@
 'use strict';
 // Puts modules together into one text, for a page or a world of its own. Each module is a function, so only its exports can be seen outside of it. Names
 // are the same as in the file, in stacks too, and the first line of each module has the name of its file. Comments and blanks at the start of a line are
-// left out, not the lines themselves: the browser reads the text for each document.
+// left out, not the lines themselves: the browser reads the text for each document. It is a small bundler for ES modules.
 //
 // The modules have only two forms, so no parser is needed: `import { a, b as c } from './file.js';` at the start of a line, and one `export { a, b };` at
 // the end. Other forms are refused, as are names that are not exported, and cycles.

@@ -15,6 +15,7 @@ const NOT_BEFORE = new Set(['html', 'head', 'body', 'frameset', 'frame', 'col', 
 
 /** @typedef {import('../browser/responses/paused.js').Insertion} Insertion */
 
+/** The `Holds` (browser/responses/paused.js) of a run without a replay: HoldScripts calls it. */
 class ChaosHolds {
   /** @param {number} seed */
   constructor(seed) {
@@ -30,8 +31,8 @@ class ChaosHolds {
   }
 
   /**
-   * The parser waits for a script that was put into a page.
-   * @param {number} id
+   * The parser waits for a script that was put into a page: HoldScripts then answers its request.
+   * @param {number} id of the pause, as in `insertions`
    */
   async holdFor(id) {
     await sleep(seeded(this.seed, `pause ${id}`) * LONGEST);

@@ -1,5 +1,5 @@
 'use strict';
-// Which options can be combined.
+// Which options can be combined. Options that contradict each other are refused.
 
 const { UsageFault } = require('../options/parse.js');
 

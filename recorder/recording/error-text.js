@@ -1,5 +1,6 @@
 'use strict';
-// The errors of a page as they are printed: as without the recorder, also if the browser names code of its copy, which has marks.
+// The errors of a page as they are printed: as without the recorder, also if the browser names code of its copy, which has marks. Uncaught exceptions, and what
+// the page writes to the console, with file, line and column.
 
 const { ownCallSite } = require('../instrument/call-site.js');
 const { SCRIPT_NAME } = require('./page-script.js');

@@ -1,5 +1,5 @@
 'use strict';
-// The files of a recording: its trace, and the names of the numbers in it.
+// The files of a recording: its trace, and the names of the numbers in it. It writes OUT.trace, whole or not at all, and OUT.names.json.
 
 const path = require('node:path');
 const { redactedTrace } = require('../common/secrets.js');

@@ -30,7 +30,7 @@ const { checkOptions } = require('./check-options.js');
  * @property {number} clicks so many clicks on what is in view follow
  * @property {number} seed chooses them
  * @property {RegExp|null} avoided what they do not hit, by its text and names
- * @property {number} slow each file is delayed by up to so many milliseconds
+ * @property {number} slow each file except pages is delayed by up to so many milliseconds
  * @property {number} [salt] another one delays other files
  * @property {number|null} [chaos] the seed by which responses, callbacks and the parser are held back, for developers
  * @property {number} time the recording ends after so many seconds

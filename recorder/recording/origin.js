@@ -102,6 +102,7 @@ function readText(file) {
 }
 
 /**
+ * Reads OUT.names.json; what is no such file is an OriginFault.
  * @param {string} file
  * @returns {import('../list/types').Names & {recording?: Partial<Origin>}} as the file has them: who reads the other members takes them as they are
  */

@@ -1,5 +1,6 @@
 'use strict';
-// The recorder's script for the browser: the modules of page/ in one text, and the settings of a recording.
+// The recorder's script for the browser: the modules of page/ in one text, and the settings of a recording. The browser injects it into each document before
+// any script of the page (an init script).
 
 const { randomUUID } = require('node:crypto');
 const path = require('node:path');

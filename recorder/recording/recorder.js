@@ -1,5 +1,6 @@
 'use strict';
-// Records one page in a browser of its own: loads it, does what the user does, and waits until the page is at rest.
+// Records one page in a browser of its own: loads it, does what the user does, and waits until the page is at rest. `--time` limits how long it loads (the
+// maximum duration).
 
 const { Chromium } = require('../browser/chromium.js');
 const { resolveAddress } = require('../browser/folder.js');
@@ -43,6 +44,7 @@ const NETWORK_HINTS = [
 /** @param {string} errorText */
 const hintOf = (errorText) => NETWORK_HINTS.find(([error]) => error.test(errorText))?.[1] || '';
 
+/** Made by each command that records: record.js, page-races.js, replay-race.js, and replay/runs.js for each further run. */
 class Recorder extends Session {
   /**
    * @param {string} given a web address, a file or a folder; a user and a password in it go only to its server
@@ -102,6 +104,7 @@ class Recorder extends Session {
 
   // ---- the browser
 
+  /** Starts the browser, or takes the one of the options, and opens a tab in it. */
   async openBrowser() {
     const given = this.options.browser;
     try {

@@ -1,5 +1,6 @@
 'use strict';
-// Waits until a page is at rest: no request is open, no action started for a while, and in a run that is compared nothing is due.
+// Waits until a page is at rest: no request is open, no action started for a while, and in a run that is compared nothing is due. The network is idle, and the
+// page quiet: then a recording ends.
 
 const { sleep, within } = require('../common/time.js');
 const { PLACE_AT_REST } = require('./awaited.js');
@@ -21,6 +22,7 @@ const LONGEST_LOOK = 2000;
 /** The part of the time for which acts wait for a page that is not quiet: the rest is for the acts, and for what comes of them. */
 const PART_BEFORE_ACTS = 1 / 2;
 
+/** Made by recorder.js for one recording. */
 class Rest {
   /** @param {import('./session.js').Session} session */
   constructor(session) {

@@ -1,5 +1,6 @@
 'use strict';
-// What a recording of a tab has, whoever drives the tab: its log, texts and errors, how it is prepared, and how it ends.
+// What a recording of a tab has, whoever drives the tab: its log, texts and errors, how it is prepared, and how it ends. Dialogs are answered here, and a crash
+// is noticed (`listen`).
 /* global window, Element */
 
 const { BrowserFault } = require('../browser/protocol.js');
@@ -91,6 +92,7 @@ class RecordingFault extends Error {
   }
 }
 
+/** The base of `Recorder` and `AttachedRecorder`. */
 class Session {
   /**
    * @param {string} given the page as the user named it
@@ -223,7 +225,7 @@ class Session {
   }
 
   /**
-   * Listens to what the page sends, to its errors and dialogs, and to a crash of its tab.
+   * Listens to what the page sends, to its errors and dialogs (`alert`, `confirm`, `prompt`: answered here), and to a crash of its tab.
    * @param {boolean} [isDriven] whether another program drives the tab
    */
   listen(isDriven = false) {

@@ -1,6 +1,7 @@
 'use strict';
 // What differs when a race comes in the other order, confirmed by two further runs: does a second run in this order show it too, and does it come from the
-// delay? Several races share these runs if their differences cannot be confused, or if they turn together; else each has its own.
+// delay? Several races share these runs if their differences cannot be confused, or if they turn together; else each has its own. So flaky differences are not
+// shown as those of the race.
 
 const { allOf } = require('../common/at-once.js');
 const { splitBy, sorted } = require('./found/differences.js');
@@ -27,6 +28,7 @@ const MOST_SHARED = 6;
 /** Milliseconds that a race waits for others while there is room for its runs, or as long as a run takes: a slow race holds none of them up. */
 const LONGEST_WAIT = 4000;
 
+/** One for all races of a replay: `Replay` expects each race, and asks for its differences (`find`). */
 class Confirm {
   /**
    * @param {import('./recorded.js').Recorded} recorded

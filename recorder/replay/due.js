@@ -10,6 +10,7 @@ const { readKeys } = require('./read-run.js');
  */
 const STARTS = { timer: 'timer|tick', tick: 'tick|module', event: 'fire|inline|wfire', exec: 'exec|module' };
 
+/** Made for each run that holds something back: by runs.js and load-steering.js. */
 class Due {
   /**
    * @param {import('../races/types').AccessIdentity} wanted

@@ -3,6 +3,7 @@
 
 /** @typedef {import('./types').FurtherRun} FurtherRun */
 
+/** Made by `Replay`. */
 class FreeRun {
   /**
    * @param {import('./recorded.js').Recorded} recorded

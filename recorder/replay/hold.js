@@ -1,5 +1,5 @@
 'use strict';
-// One thing that a run of a replay holds back.
+// One thing that a run of a replay holds back. A response, a timer, an event or an act of the user.
 
 const { HOLD_NAME } = require('../browser/content-policy.js');
 const { inAnyRun } = require('../common/request-address.js');
@@ -9,6 +9,7 @@ const { inAnyRun } = require('../common/request-address.js');
 /** @param {string} type */
 const isReply = (type) => type === 'XHR' || type === 'Fetch';
 
+/** Made by RunSteering, for each reversal and each order that is kept. */
 class Hold {
   /**
    * @param {import('./types').Wanted} wanted

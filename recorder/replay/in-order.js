@@ -17,6 +17,7 @@ const MOST_RUNS = 3;
 /** @type {(one: Attempt, best: Attempt|null) => boolean} */
 const isBetter = (one, best) => !best || (one.isTurned && (!best.isTurned || one.astray.length < best.astray.length));
 
+/** Made by `Replay`. */
 class InOrder {
   /**
    * @param {import('./recorded.js').Recorded} recorded
@@ -49,6 +50,7 @@ class InOrder {
   }
 
   /**
+   * One run: a race in the other order (null: none), and other races held in their recorded order.
    * @param {string} name
    * @param {number} number
    * @param {Reversal|null} reversal

@@ -11,6 +11,7 @@ const { Orders } = require('./found/orders.js');
 /** @typedef {import('../recording/options.js').RecordingOptions} RecordingOptions */
 /** @typedef {import('./types').Run} Run */
 
+/** Made by `Replay`, before its first run. */
 class Recorded {
   /**
    * @param {import('../recording/recorder.js').Recorder} recorder of the recorded run, whose browser still runs

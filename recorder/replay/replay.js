@@ -1,5 +1,5 @@
 'use strict';
-// Runs a recorded page again so that the two accesses of a race come in the other order, and finds what differs then.
+// Runs a recorded page again so that the two accesses of a race come in the other order, and finds what differs then. A run whose tab crashes reverses nothing.
 
 const { randomInt } = require('node:crypto');
 const path = require('node:path');
@@ -34,6 +34,7 @@ const LARGEST_SEED = 2 ** 32 - 1;
  */
 const chance = (options) => (options.isLive ? null : { seed: randomInt(LARGEST_SEED), date: Date.now() });
 
+/** Made by replay-command.js, for er_page, er_replay and programs. */
 class Replay {
   /**
    * @param {import('../recording/recorder.js').Recorder} recorder of the recorded run, whose browser still runs
@@ -93,6 +94,7 @@ class Replay {
   }
 
   /**
+   * Tries one cause after the other until the race comes in the other order, each in a run of its own.
    * @param {Race} race
    * @param {number} number
    * @param {() => void} arrive called once the race needs no more runs of its own

@@ -1,5 +1,5 @@
 'use strict';
-// Further runs of a recorded page, several at once.
+// Further runs of a recorded page, several at once. How many run concurrently, each with its timeout.
 
 const fs = require('node:fs');
 const os = require('node:os');
@@ -51,6 +51,7 @@ function runsAtOnce({ atOnce }, { responses, intake }, processors = os.available
   return Math.max(1, Math.min(processors, Math.floor(LINES_AT_ONCE / Math.max(intake.entries.length, 1))));
 }
 
+/** Made by `Replay`, for all its runs. */
 class Runs {
   /**
    * @param {import('./recorded.js').Recorded} recorded
@@ -110,6 +111,7 @@ class Runs {
   }
 
   /**
+   * Records the page once more, and writes the trace of this run.
    * @param {string} name
    * @param {RunSteering|null} steering
    * @returns {Promise<FurtherRun>}

@@ -1,5 +1,5 @@
 'use strict';
-// What one run of a replay holds back, each thing until something else has come.
+// What one run of a replay holds back, each thing until something else has come. It gives up (timeout) if the second access does not come.
 
 const { HOLD_NAME } = require('../browser/content-policy.js');
 const { ofRecording } = require('../recording/page-script.js');
@@ -22,6 +22,7 @@ const QUIET_WITH_REVERSALS = 2000;
 /** Milliseconds between two looks at the clock. */
 const TICK = 20;
 
+/** It implements `Holds` (browser/responses/paused.js); runs.js makes one for each run, and load-steering.js extends it for driven loads. */
 class RunSteering {
   /**
    * @param {Wanted[]} reversals what is held back so that races come in the other order

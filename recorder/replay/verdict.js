@@ -1,5 +1,6 @@
 'use strict';
-// The verdict of a replay on a race: in words, by its worst effect, and as OUT.replay.json contains it.
+// The verdict of a replay on a race: in words, by its worst effect, and as OUT.replay.json contains it. Harmful: an error, a lost act or another effect;
+// harmless: no visible difference.
 
 const { someInWords } = require('./found/compare.js');
 const { otherWayInWords } = require('./found/lawful.js');

@@ -30,10 +30,9 @@ const FACTS = { page: '', status: 1, files: [], folder: null };
 function listAndView({ text, report }, names) {
   const problems = new Problems(text, names, report);
   const listing = new Listing([problems], null);
-  const ordered = { problems: listing.problems, nameOf: (/** @type {number} */ race) => problems.ofRaces[race].problem, leads: problems.leads, listing };
   const model = new Model(report, names, problems.words.actions);
   model.pairsToExplain();
-  const page = renderPage({ ...model.build([], ordered), leftOut: [], ofLibraries: null, isUnproved: false, lacksLinks: false, viewer: '', trace: '', command: '', report: '' });
+  const page = renderPage({ ...model.build([], listing), leftOut: [], ofLibraries: null, isUnproved: false, lacksLinks: false, viewer: '', trace: '', command: '', report: '' });
   linesOf(listing);
   plainListing(listing, FACTS);
   listLoads(problems);

@@ -31,6 +31,15 @@ test('errors with their places, one that a function of the browser hands on, and
   assert.deepStrictEqual(await errorsOf('errors.html', ['--depth', 'globals']), plain);
 });
 
+/** Pages that throw if something is not as the HTML Standard says. */
+const CHECK_THEMSELVES = ['message-source.html', 'removed-again.html'];
+
+for (const page of CHECK_THEMSELVES) {
+  test(`${page} finds the same as without the recorder`, { timeout: 150000 }, async () => {
+    for (const words of [['--raw'], [], ['--depth', 'globals']]) assert.deepStrictEqual(await errorsOf(page, words), [], words.join(' '));
+  });
+}
+
 test('the scripts of a frame that is not recorded, as one of another origin, do the same', { timeout: 60000 }, async () => {
   assert.deepStrictEqual(await errorsOf('frame-sandboxed.html', []), []);
 });

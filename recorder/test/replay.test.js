@@ -176,6 +176,20 @@ for (const atOnce of ['1', '4']) {
   });
 }
 
+test('Ctrl-C before a replay has ended: a line says so', { timeout: LONGEST }, async () => {
+  const place = path.join(folder, 'stop-none');
+  fs.mkdirSync(place);
+  fs.writeFileSync(path.join(place, 'races.html'), TWO_RACES);
+  const command = start(path.join(TOP, 'er_page'), ['races.html', '--replay', '--at-once', '1'], { cwd: place, env: process.env });
+  while (!command.said.includes('Each of 2 run again') && command.exitCode === null) await new Promise((resolve) => setTimeout(resolve, 20));
+  command.kill('SIGINT');
+  assert.strictEqual(await command.ended, 130, command.said);
+  assert.match(command.output, /^No race was run again to the end\.$/m);
+  assert.match(command.output, /^2 problems \(.*\); the view is /m);
+  assert.deepStrictEqual(replayedIn(path.join(place, 'races.races')), []);
+  assert.doesNotMatch(fs.readFileSync(path.join(place, 'races.races', 'page.html'), 'utf8'), /by what the other order does/);
+});
+
 /**
  * What a replay found of a race, the same in each replay.
  * @param {Replayed} race

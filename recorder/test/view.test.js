@@ -76,6 +76,8 @@ const pick = (tab, action) => tab.evaluate(`(() => { const svg = document.queryS
 const count = (tab, selector) => tab.evaluate(`document.querySelectorAll(${JSON.stringify(selector)}).length`);
 /** @type {(tab: Tab, selector: string) => Promise<string>} */
 const textOf = (tab, selector) => tab.evaluate(`document.querySelector(${JSON.stringify(selector)}).textContent`);
+/** @type {(tab: Tab, selector: string) => Promise<string[]>} */
+const textsOf = (tab, selector) => tab.evaluate(`[...document.querySelectorAll(${JSON.stringify(selector)})].map((one) => one.textContent)`);
 /** @type {(tab: Tab, id: string, value: string) => Promise<unknown>} */
 const choose = (tab, id, value) => tab.evaluate(`(() => { const one = document.getElementById('${id}'); one.value = ${JSON.stringify(value)}; one.dispatchEvent(new Event(one.type === 'search' ? 'input' : 'change')); })()`);
 
@@ -148,8 +150,7 @@ test('races that were run again: what differs first, and the harmless folded', {
   ];
   writePage(path.join(folder, 'again.trace'), { ...JSON.parse(await textOf(tab, '#model')), replays, recordedPicture: null });
   await load(tab, 'again');
-  /** @type {(selector: string) => Promise<string[]>} */
-  const texts = (selector) => tab.evaluate(`[...document.querySelectorAll(${JSON.stringify(selector)})].map((one) => one.textContent)`);
+  const texts = (/** @type {string} */ selector) => textsOf(tab, selector);
   await tab.evaluate("{ const order = document.getElementById('order'); order.value = 'verdict'; order.dispatchEvent(new Event('change')); }");
   assert.deepStrictEqual(await texts('details.group > summary .verdict'), ['turned: differs', 'not turned']);
   assert.deepStrictEqual(await texts('details.group > summary .effect'), ['a lost act']);
@@ -163,6 +164,24 @@ test('races that were run again: what differs first, and the harmless folded', {
   await clickAt(tab, 'details.group > summary');
   assert.deepStrictEqual(await texts('.replay .differences td'), ['event: the click: <b>', 'buy', 'not run']);
   assert.strictEqual(await count(tab, 'main b, main i'), 0);
+  assert.deepStrictEqual(errors, []);
+});
+
+test('the sections of the list, with their counts, and what is known in a closed one at the end', { timeout: 150000 }, async () => {
+  const { tab, errors } = await openView('sections', SHOP, NAMES);
+  assert.deepStrictEqual(await textsOf(tab, '.section header'), ['may throw2 problems', 'loses what a user does1 problem']);
+  const model = JSON.parse(await textOf(tab, '#model'));
+  model.listed[1].isKnown = true;
+  writePage(path.join(folder, 'sections.trace'), { ...model, totals: { problems: 2, known: 1, groups: 3, races: 4 } });
+  await load(tab, 'sections');
+  assert.strictEqual(await textOf(tab, '#found'), '2 problems, 1 known: 3 groups with 4 races');
+  assert.match(await textOf(tab, '.counts'), /^2 problems, 1 known, 3 groups, 4 races, /);
+  assert.deepStrictEqual(await textsOf(tab, '.section > header, .section > summary'), ['may throw1 problem', 'loses what a user does1 problem', 'known1 problem']);
+  assert.strictEqual(await count(tab, 'details.section[open]'), 0);
+  await clickAt(tab, 'details.section > summary');
+  assert.deepStrictEqual(await textsOf(tab, 'details.section details.group > summary .known'), ['known']);
+  await choose(tab, 'order', 'size');
+  assert.deepStrictEqual(await textsOf(tab, '.section > header, .section > summary'), ['known1 problem']);
   assert.deepStrictEqual(errors, []);
 });
 

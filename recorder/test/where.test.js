@@ -7,8 +7,10 @@ const fs = require('node:fs');
 const path = require('node:path');
 const { test } = require('node:test');
 
-const { linesFor, search } = require('../where.js');
+const { linesFor } = require('../where.js');
 const { readIndex, withPaths } = require('../where-index.js');
+const { rank } = require('../where-rank.js');
+const CORPUS = require('./where-questions.json');
 
 const WHERE = path.join(__dirname, '..', 'where.js');
 /** What a reader looks at. */
@@ -46,6 +48,9 @@ const FIRST_HITS = {
   'clearTimeout held callback': 'page/recording/clearing.js', 'abort fetch signal': 'page/tasks/requests.js', 'service worker bypass': 'browser/responses.js',
   'signal Ctrl-C nested': 'common/stoppable.js', 'recorders write folder': 'driven/trace-folder.js', 'profile lock': 'driven/profile-lock.js',
   'shadow root': 'page/document/shadows.js', 'random seed clock': 'page/core/chance.js', 'proxy object kind': 'page/objects/kinds.js',
+  'space newline': 'page/log/spelling.js', 'generator yield action': 'page/recording/recording.js', 'source map 404': 'trace/source-map.js',
+  'option given twice': 'options/parse.js', 'option repeated': 'options/parse.js', 'confirm dialog answered': 'recording/session.js', alert: 'recording/session.js',
+  'end state noise random': 'replay/found/differences.js', 'driver kills browser': 'driven/browser-recorder.js',
   'sitemap gzip': 'sitemap.js', 'call analyzer': 'races/program.js', 'custom element parser': 'page/document/reactions.js',
 };
 
@@ -71,6 +76,30 @@ function firstHit(words) {
 
 for (const [words, file] of Object.entries(FIRST_HITS)) test(`first of ${words}: ${file}`, () => assert.strictEqual(firstHit(words), file));
 
+/**
+ * The files to which the lines for some words lead, in this order.
+ * @param {string[]} lines
+ */
+function filesOf(lines) {
+  const found = lines.map((line) => (/ \| best recorder\/([^,]*)/.exec(line) || /^README.*? \| .*?recorder\/([\w./-]+)/.exec(line) || /^recorder\/([^:]*)/.exec(line) || [])[1]);
+  return [...new Set(found.filter(Boolean))];
+}
+
+/** Of the questions of where-questions.json so many lead to their file at once, or within three files. */
+const SHARE_FIRST = 0.8;
+const SHARE_OF_THREE = 0.93;
+
+test('questions as newcomers ask them lead to the file that has the answer', () => {
+  const ranks = CORPUS.map(({ question, files }) => {
+    for (const file of files) assert.ok(fs.existsSync(path.join(__dirname, '..', file)), file);
+    return { question, at: filesOf(answer(question)).findIndex((file) => files.includes(file)) };
+  });
+  const missed = ranks.filter(({ at }) => at).map(({ question, at }) => `${at + 1 || '-'} ${question}`).join('\n');
+  assert.ok(CORPUS.length >= 190);
+  assert.ok(ranks.filter(({ at }) => at === 0).length >= SHARE_FIRST * CORPUS.length, missed);
+  assert.ok(ranks.filter(({ at }) => at >= 0 && at < 3).length >= SHARE_OF_THREE * CORPUS.length, missed);
+});
+
 /** Words that say nothing of a module. */
 const OTHERS = 'also been come comes does each from have into itself more most only other others such than that their them then there they this what when where whether which with'.split(' ');
 /** So many words of its first comment find a module. */
@@ -79,10 +108,11 @@ const WORDS = 4;
 test('each module is found by the first words of its first comment', () => {
   const modules = INDEX.modules.filter(({ name }) => !/^test\/|^where|\.d\.ts$/.test(name));
   assert.ok(modules.length > 300);
+  const index = { modules, rows: [], headings: [] };
   for (const { name, parts: { about } } of modules) {
     const words = (about.toLowerCase().match(/[a-z]{4,}/g) || []).filter((word) => !OTHERS.includes(word)).slice(0, WORDS);
     assert.ok(words.length >= 2, `${name} has no first comment of two words`);
-    const found = search(words, { modules, rows: [], headings: [] }).modules.slice(0, FIRST).map((one) => one.module.name);
+    const found = rank(words, index).modules.slice(0, FIRST).map((one) => one.module.name);
     assert.ok(found.includes(name), `where.js ${words.join(' ')}: ${found.join(', ')}, without ${name}`);
   }
 });

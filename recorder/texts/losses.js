@@ -1,5 +1,5 @@
 'use strict';
-// What a recording lacks of its page, as lines: what the page's log has counted, and what the copies of its texts lack.
+// What a recording lacks of its page, as lines: what the page's log has counted, and what the copies of its texts lack. These are the lines `not recorded: ..`.
 
 /**
  * The counts of a run's texts (sources.js):

@@ -1,5 +1,5 @@
 'use strict';
-// The numbers of the page's modules: of those that are files one for each address, of those inside a page one for each script.
+// The numbers of the page's modules: of those that are files one for each address, of those inside a page one for each script. ES modules, by their URLs.
 
 const { FIRST_MODULE } = require('../common/numbers.js');
 

@@ -1,5 +1,6 @@
 'use strict';
-// The files of a recording, and the places in them of what marked code reports by the number of a site. Several runs of a page share them.
+// The files of a recording, and the places in them of what marked code reports by the number of a site. Several runs of a page share them. A site is a place in
+// the code that has a mark: each gets a number when its script is instrumented.
 
 const { isLibrary } = require('../common/library.js');
 const { LibraryPart, OriginalFile } = require('./source.js');
@@ -29,6 +30,7 @@ function wholeAddress(name, bundle) {
   }
 }
 
+/** Made by `Sources`. */
 class Places {
   constructor() {
     /** @type {(Source|OriginalFile|LibraryPart)[]} */

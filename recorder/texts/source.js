@@ -61,6 +61,7 @@ function lastStarted(nested, offset) {
   return low - 1;
 }
 
+/** Made by `Sources` for each text. */
 class Source {
   /**
    * @param {import('./sources.js').Sources} sources

@@ -19,6 +19,7 @@ const { Unmarked } = require('./unmarked.js');
 /** @type {import('./source.js').Insertions} */
 const NO_INSERTIONS = () => [];
 
+/** One for each run (session.js makes it), which shares files and sites with further runs of the page (`forRun`). */
 class Sources {
   /**
    * @param {'globals'|'objects'} [depth] what is marked

@@ -1,5 +1,6 @@
 'use strict';
-// The scripts and handler attributes that stay as they are, since the recorder cannot read them: why, and where.
+// The scripts and handler attributes that stay as they are, since the recorder cannot read them: why, and where. It is reported which could not be parsed, with
+// the reason, the file and the line.
 
 const { shown } = require('../common/shown.js');
 
@@ -15,6 +16,7 @@ const WORDS = { other: 'that are no JavaScript', syntax: 'whose syntax is not kn
 /** So many places of a kind are in its line. */
 const MOST_PLACES = 5;
 
+/** A part of `Sources`. */
 class Unmarked {
   constructor() {
     /** @type {Unparsed[]} */

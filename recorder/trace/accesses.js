@@ -31,6 +31,7 @@ function librariesInWords({ accesses, objects }) {
   return `${counted(accesses, 'access')} to ${counted(objects, 'object')} that only libraries touch ${accesses === 1 ? 'is' : 'are'} left out; --libraries none shows them`;
 }
 
+/** Made by recording/files.js when a log is written as a trace. */
 class Accesses {
   /** @param {Entry[]} entries the log */
   constructor(entries) {

@@ -1,5 +1,6 @@
 'use strict';
-// Takes the page's log as it comes: lines of the trace with their places, facts about numbers, and counts of what was missed.
+// Takes the page's log as it comes: lines of the trace with their places, facts about numbers, and counts of what was missed. Malformed and unknown lines are
+// rejected and counted.
 //
 // The page may have written any of it, so nothing is taken on trust. What is taken fits the tables of log/: each line has a keyword and as many
 // tokens as belong to it, each number is below 2^32, a fact has the members of its kind, and a place in marked code is one. The rest is counted.
@@ -49,6 +50,7 @@ function readCounts(json) {
   }
 }
 
+/** Made by session.js, and by driven/load.js for each load. */
 class Intake {
   /** @param {{countSites?: () => number}} options `countSites` says how many places of marked code there are */
   constructor({ countSites = () => Infinity } = {}) {

@@ -1,5 +1,6 @@
 'use strict';
-// What the analyzer can't take is left out, so that the rest is analyzed: locations with too many accesses or pairs, and records beyond the limits.
+// What the analyzer can't take is left out, so that the rest is analyzed: locations with too many accesses or pairs, and records beyond the limits. If there
+// are too many, they are dropped and counted.
 
 const { BEGINS } = require('./records.js');
 const { wordOf } = require('./intake.js');

@@ -6,6 +6,7 @@
  * @typedef {{[line: string]: T}} ByLine
  */
 
+/** A part of `Names`. */
 class LineFacts {
   constructor() {
     /**

@@ -1,5 +1,6 @@
 'use strict';
-// Where the source map of a script is: the address that its response or its last lines name.
+// Where the source map of a script is: the address that its response or its last lines name. The header `SourceMap`, or the comment `//# sourceMappingURL=..`,
+// also a `data:` address.
 
 /** Lines after the comment may name the script itself, or be comments too. */
 const LAST_LINES = 6;

@@ -1,5 +1,6 @@
 'use strict';
-// OUT.names.json: what each number of a trace is, and the place in the page's own text of each line, if it is known.
+// OUT.names.json: what each number of a trace is, and the place in the page's own text of each line, if it is known. Files and sources, elements, requests,
+// timers, objects, functions, and the stack of each line.
 
 const { fileAddress } = require('../browser/folder.js');
 const { foreignness } = require('../common/library.js');
@@ -42,6 +43,7 @@ const { namedFile } = require('./named-files.js');
  */
 const table = () => Object.create(null);
 
+/** Made by recording/files.js, once a log is written as a trace. */
 class Names {
   /**
    * @param {Texts} sources

@@ -6,6 +6,7 @@
 /** @typedef {{text: string, place?: string, found?: string, stack?: string}} Entry */
 
 /**
+ * The log with a dispatch in the place of each point that a note names, and with actions counted again.
  * @param {Entry[]} log
  * @param {Set<string>} begins the words that begin an action
  * @returns {Entry[]}

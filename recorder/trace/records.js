@@ -25,6 +25,7 @@ const LETTERS = format.letters;
 const BY_WORD = new Map(FORMS.map((form) => [form.word, form]));
 
 /**
+ * What is known of a record by its form in format.json: its lane, what requested it, and whether it is a dispatch.
  * @param {Form} form
  * @returns {RecordFacts}
  */

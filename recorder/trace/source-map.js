@@ -1,5 +1,6 @@
 'use strict';
-// Source maps: which place of the files that a bundle was made of a place of the bundle stands for.
+// Source maps: which place of the files that a bundle was made of a place of the bundle stands for. It decodes their `mappings` (Base64 VLQ), and index maps
+// with `sections`.
 
 const { addressOfMap, textInAddress } = require('./map-address.js');
 
@@ -59,6 +60,7 @@ function isMap(given) {
     && (sourcesContent === undefined || sourcesContent === null || isListOfTexts(sourcesContent));
 }
 
+/** Made by `parseMap`. */
 class SourceMap {
   /**
    * @param {MapJson} map

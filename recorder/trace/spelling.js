@@ -1,5 +1,5 @@
 'use strict';
-// Writes a log as records of one version of the format, all of which the analyzer takes (spelling/legal.js).
+// Writes a log as records of one version of the format, all of which the analyzer takes (spelling/legal.js). The text of a trace file has these lines.
 //
 // A line of the log is a record, or one of these. After tabs it has its place in the browser's copy (or the number of a mark), what an access found
 // or wrote (page/log/values.js), and, if code requests something, the number of its stack: trace/names.js takes the first place in it outside of libraries.
@@ -51,6 +51,7 @@ function collectModules(entries, word) {
   return new Map(entries.map(({ text }) => text.split(' ')).filter((words) => words[0] === word).map(([, run, number]) => [run, number]));
 }
 
+/** Made by recording/files.js for each trace that is written. */
 class Spelling {
   /**
    * @param {SpelledEntry[]} entries the log

@@ -1,5 +1,5 @@
 'use strict';
-// Values and scripts inside the page of the view.
+// Values and scripts inside the page of the view. JSON in which no `</script>` can end the element, and the hashes of its content policy.
 
 const { createHash } = require('node:crypto');
 const { jsonText } = require('../common/shown.js');

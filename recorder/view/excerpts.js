@@ -1,5 +1,5 @@
 'use strict';
-// The lines of source around places, each line once.
+// The lines of source around places, each line once. Source code with line numbers.
 
 const { withoutCommands } = require('../common/shown.js');
 
@@ -26,6 +26,7 @@ function cutLine(text, column) {
   return { text: `${before}${plain(text.slice(column - 1, to))}${to < text.length ? '…' : ''}`, column: before.length + 1 };
 }
 
+/** A part of the view's `Model`. */
 class Excerpts {
   /** @param {import('../races/words.js').Words} words */
   constructor(words) {

@@ -1,5 +1,6 @@
 'use strict';
-// The page of the view as one text that needs nothing else.
+// The page of the view as one text that needs nothing else. It loads no external resources: its own content policy (CSP) forbids that, and any script (XSS) of
+// a recorded page.
 
 const fs = require('node:fs');
 const path = require('node:path');
@@ -40,9 +41,11 @@ function leftOut({ leftOut: all = [] }) {
  * That the page leaves out some races, if it does.
  * @param {ViewModel} model
  */
-function notShown({ totals, races, report }) {
+function notShown({ totals, listed, races, report }) {
   if (races.length === totals.races) return '';
-  return `<p class="left-out">This page shows ${races.length} of ${totals.races} races, so that a browser can open it: at most 100 of a group, the worst problems first. `
+  const all = totals.problems + (totals.known || 0);
+  const ofProblems = listed.length < all ? `, in ${listed.length} of ${all} problems` : '';
+  return `<p class="left-out">This page shows ${races.length} of ${totals.races} races${ofProblems}, so that a browser can open it: at most 100 of a group, the worst problems first. `
     + `All are in the report, <code>${escapeText(report)}</code>, and in words in the list of <code>--json</code>.</p>\n`;
 }
 
@@ -98,7 +101,10 @@ function partsOfPage() {
   return parts;
 }
 
-/** @param {ViewModel} model */
+/**
+ * The HTML of a view: its model is in it as JSON, beside its style and its script.
+ * @param {ViewModel} model
+ */
 function renderPage(model) {
   const { style, script, policy } = partsOfPage();
   return `<!doctype html>
@@ -116,7 +122,7 @@ function renderPage(model) {
 ${unproved(model)}${notComplete(model)}${notShown(model)}${leftOut(model)}${ofLibraries(model)}<form>
 <label>Kind <select id="kind">${KINDS}</select></label>
 <label>Text <input id="text" type="search" placeholder="a name, a file, a handler"></label>
-<label>Order <select id="order">${options(model.replays ? ORDERS_OF_REPLAYS : ORDERS)}</select></label>
+<label>Order <select id="order">${options(model.replays?.length ? ORDERS_OF_REPLAYS : ORDERS)}</select></label>
 <output id="found"></output>
 </form>
 <main id="groups"></main>

@@ -4,31 +4,23 @@
 
 const { RECORDS, LANES } = require('../trace/records.js');
 const { Words } = require('../races/words.js');
+const { choose } = require('./choice.js');
 const { sizeOf } = require('./embedded.js');
 const { Excerpts } = require('./excerpts.js');
+const { countsOf, linesOf } = require('./lines.js');
 const { RULES } = require('./rules.js');
 
 /**
  * @typedef {import('../list/types').Race} Race
  * @typedef {import('./types').ShownAction} ShownAction
  * @typedef {import('./types').PackedRace} PackedRace
- */
-/**
- * What the list knows of the races, by their indices: their problems, the worst first; the problem of each race; the race that is shown for each group;
- * what the list says of a problem.
- * @typedef {import('../list/listing.js').Listed} Listed
- * @typedef {Pick<import('../list/listing.js').Listing, 'summaryOf'|'fixOf'|'partOf'>} Said
- * @typedef {{problems: Listed[], nameOf: (race: number) => string, leads: number[], listing: Said}} Ordered
+ * @typedef {import('../list/listing.js').Listing} Listing the list of the run that is shown
  */
 
 /** The bytes of the model: the page is to have at most 5 MB with its script, also if each of these is one more after the limit. */
 const MOST_BYTES = 4500000;
 const MOST_OF_ACTIONS = 2200000;
 const MOST_LINKS = 20000;
-/** So many races of a group are shown at most. */
-const MOST_OF_GROUP = 100;
-/** Of a problem so many groups come before the next problem. */
-const MOST_FIRST_GROUPS = 20;
 const MOST_ORIGINS = 400;
 /** The program is asked about so many pairs at most, so no more are looked for. */
 const MOST_TO_EXPLAIN = 300;
@@ -36,6 +28,7 @@ const MOST_TO_EXPLAIN = 300;
 const SHORTEST_WORDS = 12;
 const KINDS = ['variable', 'element', 'handler'];
 
+/** Made by view.js for each view. */
 class Model {
   /**
    * @param {import('../list/types').Report} report
@@ -83,23 +76,24 @@ class Model {
   /**
    * Builds the model, with so many links as there is room for.
    * @param {import('./types').Link[]} links those that the program printed
-   * @param {Ordered} ordered
+   * @param {Listing} listing
    */
-  build(links, ordered) {
+  build(links, listing) {
     const actions = this.buildActions();
     const shownLinks = links.slice(0, MOST_LINKS);
     this.left -= sizeOf(actions) + sizeOf(shownLinks);
-    const { races, problems, groups } = this.choose(ordered);
+    const { races, problems, groups } = choose(this, listing);
     const { report } = this;
     return {
       page: this.names.page || '',
       counts: /** @type {[string, number][]} */ ([['actions', report.actions], ['accesses', report.accesses], ['pairs', report.pairs], ['chains', report.chains], ['links', report.links]]),
-      totals: { problems: ordered.problems.filter((one) => one.groups.length).length, groups: report.groups.length, races: report.races.length },
+      totals: { ...countsOf(listing.inOrder()), groups: report.groups.length, races: report.races.length },
       lanes: LANES,
       kinds: KINDS,
       origins: [...this.origins.keys()],
       texts: [...this.texts.keys()],
       actions,
+      listed: linesOf(listing, problems),
       problems,
       groups,
       races,
@@ -189,26 +183,10 @@ class Model {
   // ---- races
 
   /**
-   * The races that are shown while there is room: of each problem the first one and those of its first groups, then those of the other groups, then
-   * the others of all groups.
-   * @param {Ordered} ordered
-   */
-  choose({ problems, nameOf, leads, listing }) {
-    const shown = new Shown(this, nameOf, listing);
-    const lines = problems.filter(({ groups }) => groups.length);
-    const add = (/** @type {number} */ group) => shown.addGroup(leads[group], group, this.report.groups[group].size);
-    lines.every((problem) => shown.addProblem(problem) && problem.groups.slice(0, MOST_FIRST_GROUPS).every(add));
-    lines.every((problem) => problem.groups.slice(MOST_FIRST_GROUPS).every(add));
-    const counts = this.report.groups.map(() => 1);
-    this.report.races.every(({ group }, k) => shown.races.has(k) || counts[group - 1]++ >= MOST_OF_GROUP || shown.addRace(k));
-    return { problems: shown.problems, groups: shown.groups.sort((a, b) => a.number - b.number), races: [...shown.races.values()].sort((a, b) => a[0] - b[0]) };
-  }
-
-  /**
    * A race as the view has it.
    * @param {Race} race
    * @param {number} index
-   * @param {number} problem
+   * @param {number} problem the index of the one in whose line it is
    * @returns {PackedRace}
    */
   race(race, index, problem) {
@@ -220,69 +198,6 @@ class Model {
     });
     return [index + 1, KINDS.indexOf(kind), this.text(text), race.location, race.modes, race.lines, race.actions, this.commonOrigin(race.actions), race.group - 1,
       problem, this.text(this.words.race(race)), places];
-  }
-}
-
-/** What is shown so far, within the size that the model has left. */
-class Shown {
-  /**
-   * @param {Model} model
-   * @param {(race: number) => string} nameOf the name of a race's problem
-   * @param {Said} listing
-   */
-  constructor(model, nameOf, listing) {
-    this.model = model;
-    this.nameOf = nameOf;
-    this.listing = listing;
-    /** @type {Map<string, number>} the index of a problem by its name */
-    this.indices = new Map();
-    /** @type {Map<number, PackedRace>} by index */
-    this.races = new Map();
-    /** @type {import('./types').ShownProblem[]} */
-    this.problems = [];
-    /** @type {import('./types').ShownGroup[]} */
-    this.groups = [];
-  }
-
-  /**
-   * Each `add..` returns whether there was room.
-   * @param {Listed} problem
-   */
-  addProblem(problem) {
-    const { listing } = this;
-    const { name, words, look, first, isKnown } = problem;
-    if (this.model.left <= 0) return false;
-    this.indices.set(name, this.problems.length);
-    this.addRace(first);
-    const told = { summary: listing.summaryOf(problem), fix: listing.fixOf(problem), part: listing.partOf(problem) };
-    const plain = { name, words, ...told, order: this.problems.length, first: first + 1, look: look.name, rank: look.rank, seen: look.seen, isKnown };
-    this.problems.push(plain);
-    this.model.left -= sizeOf(plain);
-    return true;
-  }
-
-  /**
-   * @param {number} lead
-   * @param {number} index
-   * @param {number} size
-   */
-  addGroup(lead, index, size) {
-    if (!this.addRace(lead)) return false;
-    const plain = { number: index + 1, race: lead + 1, size };
-    this.groups.push(plain);
-    this.model.left -= sizeOf(plain);
-    return true;
-  }
-
-  /** @param {number} race */
-  addRace(race) {
-    if (this.races.has(race)) return true;
-    if (this.model.left <= 0) return false;
-    const problem = this.indices.get(this.nameOf(race)) ?? -1;
-    const packed = this.model.race(this.model.report.races[race], race, problem);
-    this.races.set(race, packed);
-    this.model.left -= sizeOf(packed);
-    return true;
   }
 }
 

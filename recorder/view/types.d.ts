@@ -11,11 +11,19 @@ export type PackedRace = [
   common: number | null, group: number, problem: number, words: number, places: (string | null)[],
 ];
 
-/** The first race (its number) and the size of a group; `number` is that of the report. */
+/** The races of a group that are in the line of one problem (its index): the number of the first one, and how many they are; `number` is that of the report. */
 export interface ShownGroup {
   number: number;
   race: number;
   size: number;
+  problem: number;
+}
+
+/** A line of the list: its section, and the indices of its problems, first the one whose words it has. */
+export interface ShownLine {
+  part: string;
+  isKnown: boolean;
+  problems: number[];
 }
 
 export interface ShownProblem {
@@ -25,16 +33,11 @@ export interface ShownProblem {
   summary: string;
   /** A usual change. */
   fix: string;
-  /** Its index in the list, the worst first. */
-  order: number;
-  /** The number of the race that is shown for it. */
+  /** The number of the race of which the summary is. */
   first: number;
   look: string;
   rank: number;
-  /** The section of the list. */
-  part: string;
   seen: string;
-  isKnown: boolean;
 }
 
 /** A place in a file (index in `files`); `own` is the text of its line if that is cut around the place. */
@@ -79,13 +82,15 @@ export interface ShownReplay {
 export interface ViewModel {
   page: string;
   counts: [name: string, number: number][];
-  /** How many problems with a line, groups and races there are, shown or not. */
-  totals: { problems: number; groups: number; races: number };
+  /** How many lines of the list, known ones apart, groups and races there are, shown or not. */
+  totals: { problems: number; known?: number; groups: number; races: number };
   lanes: string[];
   kinds: string[];
   origins: string[];
   texts: string[];
   actions: ShownAction[];
+  /** In the order of the list, what is known last. */
+  listed: ShownLine[];
   problems: ShownProblem[];
   groups: ShownGroup[];
   races: PackedRace[];

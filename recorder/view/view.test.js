@@ -32,8 +32,7 @@ async function modelOf(lines, facts = {}, trace = 'page.trace') {
   const begin = process.cpuUsage();
   const problems = new Problems(text, names, report);
   const listing = new Listing([problems], null);
-  const ordered = { problems: listing.problems, nameOf: (/** @type {number} */ race) => problems.ofRaces[race].problem, leads: problems.leads, listing };
-  const built = new Model(report, names, new Actions(text.replace(/end\n$/, ''))).build([], ordered);
+  const built = new Model(report, names, new Actions(text.replace(/end\n$/, ''))).build([], listing);
   const commands = { viewer: './er_view', trace, command: `./er_view ${quoted(trace)}`, report: `./er_cli < ${quoted(trace)}` };
   const page = renderPage({ ...built, leftOut: [], ofLibraries: null, isUnproved: false, lacksLinks: false, ...commands });
   const { user, system } = process.cpuUsage(begin);

@@ -1,5 +1,6 @@
 'use strict';
-// The keys of a US keyboard: what a user presses for a character or a key's name (Enter). Other characters have no key here.
+// The keys of a US keyboard: what a user presses for a character or a key's name (Enter). Other characters have no key here. The browser makes `keydown`,
+// `keypress` and `keyup` of them.
 
 /**
  * @typedef {{key: string, code: string, keyCode: number, text?: string, location?: number}} Key

@@ -1,5 +1,6 @@
 'use strict';
-// Functions that run in the page: where a user can click. Each is sent as its text, with the functions of selectors.js.
+// Functions that run in the page: where a user can click. Each is sent as its text, with the functions of selectors.js. A point of the element at which no
+// other element covers it; and which element the seed of `--clicks` chooses by chance.
 /* eslint-env browser */
 
 const { findAll } = require('./selectors.js');

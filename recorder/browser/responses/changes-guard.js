@@ -5,6 +5,7 @@ const { mayChange, requestText } = require('../changing.js');
 
 /** @typedef {import('./paused.js').Paused} Paused */
 
+/** An interceptor: `Responses` calls `passRequest` for each request of a replay without `--yes`. */
 class ChangesGuard {
   /**
    * @param {import('../tab.js').Tab} tab

@@ -9,6 +9,7 @@ const { sleep } = require('../../common/time.js');
 /** The most milliseconds for which a request is held back; about half of the requests are not. */
 const MOST = 350;
 
+/** An interceptor: `Responses` calls `passRequest` for each request with `--chaos`. */
 class ChaosNetwork {
   /** @param {number} seed that of `--chaos`: the same delays for the same requests */
   constructor(seed) {

@@ -1,5 +1,6 @@
 'use strict';
-// The instrumented copies of pages and scripts, which the browser gets in place of the originals.
+// The instrumented copies of pages and scripts, which the browser gets in place of the originals. Which headers of a response stay, which are removed
+// (`content-length`, `content-type`, `sourcemap`), and which change (CSP).
 
 const { withoutCommands } = require('../../common/shown.js');
 const { policyWithMarks, hasTypes, holdAt, isOfIntegrity } = require('../content-policy.js');
@@ -25,6 +26,7 @@ const LONGEST_REASON = 100;
 /** @param {number|undefined} status */
 const hasBody = (status) => status !== undefined && status >= 200 && status < 300 && status !== 204;
 
+/** An interceptor: `Responses` calls `passResponse` for each response that is paused. */
 class Copies {
   /**
    * @param {import('../tab.js').Tab} tab

@@ -6,6 +6,7 @@ const { withoutHash } = require('../../common/request-address.js');
 
 /** @typedef {import('./paused.js').Paused} Paused */
 
+/** An interceptor: `Responses` calls `passRequest` for each request that is paused. */
 class FolderAnswers {
   /**
    * @param {import('../folder.js').Folder} folder

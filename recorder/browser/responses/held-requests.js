@@ -1,5 +1,5 @@
 'use strict';
-// Requests whose responses a replay holds back.
+// Requests whose responses a replay holds back. The response is delayed until the replay releases it, so that a race comes in the other order.
 
 /**
  * @typedef {import('./paused.js').Paused} Paused

@@ -13,6 +13,7 @@ const HOLD_ADDRESS = new RegExp(`/${HOLD_NAME}\\?(\\d+)$`);
 const isHold = (address) => HOLD_ADDRESS.test(address);
 const CODE = '__er.removeHold(document.currentScript)';
 
+/** An interceptor: `Responses` and BrowserRecorder call `passRequest`. */
 class HoldScripts {
   /**
    * @param {import('../tab.js').Tab} tab

@@ -1,5 +1,6 @@
 'use strict';
-// Keeps what the servers of a recorded run answer (kept-answers.js), and answers the requests of its replays by it.
+// Keeps what the servers of a recorded run answer (kept-answers.js), and answers the requests of its replays by it. A replay gets the recorded responses from
+// memory.
 
 const { sleep } = require('../../common/time.js');
 const { bytesOf, hasKeptAnswer, isKept, LARGEST_KEPT } = require('./kept-answers.js');

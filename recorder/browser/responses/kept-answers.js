@@ -39,6 +39,7 @@ function hasKeptAnswer({ responseStatusCode: status = 0, responseHeaders = [] })
   return status >= 200 && (status < 300 || status >= 400) && !responseHeaders.some(({ name }) => OWN_EFFECT.test(name));
 }
 
+/** Made by session.js for a run whose answers are kept. */
 class KeptAnswers {
   constructor() {
     /**
@@ -74,6 +75,7 @@ class KeptAnswers {
   }
 }
 
+/** Made by `KeptAnswers.forRun` for each run of a replay. */
 class AnswersOfRun {
   /** @param {Map<string, (Answer|null)[]>} answers */
   constructor(answers) {

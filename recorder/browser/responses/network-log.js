@@ -1,5 +1,5 @@
 'use strict';
-// What the page requests, and which requests have not ended.
+// What the page requests, and which requests have not ended. Requests in flight, and long polls, which are not waited for.
 
 const { requestText } = require('../changing.js');
 const { isHold } = require('./hold-scripts.js');
@@ -16,6 +16,7 @@ const PATIENCE = 5000;
 /** A request that is open for so many milliseconds without news counts no longer, also if others come and go. */
 const LONGEST_PATIENCE = 15000;
 
+/** Made by `Responses`; recording/rest.js asks it what is open. */
 class NetworkLog {
   constructor() {
     /** How many milliseconds more a request may take, as files that are delayed. */

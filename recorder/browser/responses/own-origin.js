@@ -1,5 +1,6 @@
 'use strict';
-// What only the page's own origin gets: headers of the user's, and a user's name and password.
+// What only the page's own origin gets: headers of the user's, and a user's name and password. HTTP basic authentication (`--http-credentials`) and `--header`:
+// no other server gets these credentials.
 
 const { originOf } = require('../../common/address.js');
 
@@ -9,6 +10,7 @@ const { originOf } = require('../../common/address.js');
  * @typedef {{requestId: string, request: {url: string}, authChallenge: {source?: string, origin: string}}} Challenge an event `Fetch.authRequired`
  */
 
+/** An interceptor: `Responses` and the recorder of a flow call `passRequest` for each request. */
 class OwnOrigin {
   /**
    * @param {import('../tab.js').Tab} tab

@@ -1,8 +1,10 @@
 'use strict';
 // Steps to another page: the page is recorded that was asked for, also in a replay. If it navigates away, the request is refused, or `leaves` is called.
+// Redirects, links, `location = ..` and reloads.
 
 /** @typedef {import('./paused.js').Paused} Paused */
 
+/** An interceptor: `Responses` and the recorder of a flow call `passRequest` for each request. */
 class PageSteps {
   /**
    * @param {import('../tab.js').Tab} tab

@@ -1,5 +1,5 @@
 'use strict';
-// Delays each file but the page, as a slow network does.
+// Delays each file except pages (of frames too), as a slow network does. `--slow MS`: up to so many milliseconds of latency, by the address of the file.
 
 const { sleep } = require('../../common/time.js');
 
@@ -15,6 +15,7 @@ function hash(text) {
   return value;
 }
 
+/** An interceptor: `Responses` calls `passRequest` for each request with `--slow`. */
 class SlowNetwork {
   /**
    * @param {number} most delays a file by up to so many milliseconds

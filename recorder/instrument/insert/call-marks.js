@@ -1,5 +1,6 @@
 'use strict';
-// Marks calls, spreads and literals: what a method of an array, a map or an element touches, and what `Object.keys` and others read of their arguments.
+// Marks calls, spreads and literals: what a method of an array, a map or an element touches, and what `Object.keys` and others read of their arguments. Methods
+// such as `push`, `sort` and `Map.set`, spread arguments (`f(...list)`), array and object literals, tagged templates.
 
 const { quote } = require('../marks/quote.js');
 const { nothing } = require('../walk/walker.js');
@@ -62,7 +63,9 @@ class CallMarks extends ValueMarks {
     else if (METHODS.has(nameOf(callee)) && !this.isLeftOut(callee, scope) && !mayEndBefore(callee.object)) this.callMethod(node, callee, scope);
     else {
       this.visit(callee, scope);
+      const close = this.markPosting(node);
       this.visitArguments(node, callee, scope);
+      close();
     }
   }
 

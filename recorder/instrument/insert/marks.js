@@ -1,6 +1,7 @@
 'use strict';
 // The walk that inserts marks at global variables (page/helpers/globals.js) and at those of a module. What is marked of
-// members and closures is in the subclasses: closure-marks.js, member-marks.js, value-marks.js, window-marks.js.
+// members and closures is in the subclasses: closure-marks.js, member-marks.js, value-marks.js, window-marks.js. Reads, assignments, updates (`a++`), `typeof
+// a` of an undeclared name, functions' names, `await`, `import()`, `eval`.
 
 const { mayWait, isFunction } = require('../syntax/children.js');
 const { namesOfPattern } = require('../syntax/names.js');
@@ -33,6 +34,18 @@ const KEPT = '__er_w';
 function knownProperty(/** @type {MemberExpression} */ { computed, property }) {
   if (!computed) return property.type === 'Identifier' ? property.name : null;
   return property.type === 'Literal' && typeof property.value === 'string' ? property.value : null;
+}
+
+/**
+ * Whether a call is one of `postMessage`, also by `call` or `apply`.
+ * @param {Node} callee
+ * @returns {boolean}
+ */
+function isPosting(callee) {
+  if (callee.type === 'Identifier') return callee.name === 'postMessage';
+  if (callee.type !== 'MemberExpression') return false;
+  const name = knownProperty(callee);
+  return name === 'postMessage' || ((name === 'call' || name === 'apply') && isPosting(callee.object));
 }
 
 class Marks extends StatementMarks {
@@ -227,7 +240,9 @@ class Marks extends StatementMarks {
 
   CallExpression(/** @type {CallExpression} */ node, /** @type {Scope} */ scope) {
     const close = this.markMaking(node, scope);
+    const closePosting = this.markPosting(node);
     super.CallExpression(node, scope);
+    closePosting();
     close();
   }
 
@@ -242,6 +257,16 @@ class Marks extends StatementMarks {
     const isMaker = callee.type === 'Identifier' && (callee.name === 'eval' || callee.name === 'Function') && scope.where(callee.name) !== 'local';
     const last = args[args.length - 1];
     return isMaker && last && last.type !== 'SpreadElement' ? this.inserter.wrap(last, '__er.made(', ')') : nothing;
+  }
+
+  /**
+   * `w.postMessage(x)` becomes `w.postMessage(call(x))`: the last argument says which window's code posts, directly before the call.
+   * @param {CallExpression} node
+   */
+  markPosting({ callee, arguments: args }) {
+    const last = args[args.length - 1];
+    if (!last || !isPosting(callee)) return nothing;
+    return this.inserter.wrap(last.type === 'SpreadElement' ? last.argument : last, '__er.po(', ')');
   }
 
   /** `import(x)` becomes `call(import(call(x)))`, so that the run of the module, and what waits for it, are known to be asked for here. */

@@ -1,5 +1,6 @@
 'use strict';
-// The walk that inserts something into a text: after each statement that ends without a semicolon there is one, since a mark may follow.
+// The walk that inserts something into a text: after each statement that ends without a semicolon there is one, since a mark may follow. Without it, automatic
+// semicolon insertion (ASI) would read the mark as a part of the statement.
 
 const { Inserter } = require('./inserter.js');
 const { Walker } = require('../walk/walker.js');

@@ -1,5 +1,6 @@
 'use strict';
-// Marks the writes of properties that come with a value, and what patterns and loops take of their objects.
+// Marks the writes of properties that come with a value, and what patterns and loops take of their objects. `a.b = value`, destructuring assignments, `for (..
+// of ..)` and `for (.. in ..)`.
 
 const { mayRun } = require('../syntax/children.js');
 const { addNamesOfCode } = require('../syntax/names.js');

@@ -1,5 +1,5 @@
 'use strict';
-// Marks the members whose object may be the window: `window.a` is the global variable `a`.
+// Marks the members whose object may be the window: `window.a` is the global variable `a`. `self`, `globalThis`, `top` and others can be it too.
 
 const { isFunction } = require('../syntax/children.js');
 const { quote } = require('../marks/quote.js');

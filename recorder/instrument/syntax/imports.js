@@ -68,6 +68,7 @@ function addNamed({ declaration, specifiers, source }, imports, { own, others })
 }
 
 /**
+ * What a module exports: variables of its own, those of other modules, and whole modules (`export * from`).
  * @param {Program} program
  * @returns {Exported}
  */

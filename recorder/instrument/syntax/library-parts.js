@@ -1,5 +1,6 @@
 'use strict';
 // Libraries inside of a file with other code, as a server or a build puts several files into one: by what a library has in any copy, also a minified one.
+// Libraries in a bundle: jQuery by what it sets, others by their banner comment (`/*! ..`).
 
 const { LIBRARIES } = require('../../options/libraries.js');
 const { childAt, isFunction, keysOf } = require('./children.js');

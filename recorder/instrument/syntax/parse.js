@@ -1,5 +1,5 @@
 'use strict';
-// Reads JavaScript by acorn: the tree of a text, or its parse error, for which it stays as it is.
+// Reads JavaScript by acorn: the tree of a text, or its parse error, for which it stays as it is. A SyntaxError, or syntax that is too new, means: no marks.
 
 const acorn = require('/usr/share/nodejs/acorn');
 const { newerSyntax } = require('./newer-syntax.js');

@@ -1,5 +1,6 @@
 'use strict';
-// Scopes: which names a piece of JavaScript declares where.
+// Scopes: which names a piece of JavaScript declares where. Blocks (`let`, `const`, `class`), functions (`var`, parameters, `arguments`), `catch`, modules, and
+// `with`, in which any name may be a property.
 
 const { addNames, addLexical, addHoisted, addNamesOfCode, declaresForBlock } = require('./names.js');
 

@@ -1,6 +1,6 @@
 'use strict';
 // The walk through a tree of acorn's: what is visited in which order, and in which scope. Subclasses say what is done there: the first walk (look.js), and
-// those that insert marks.
+// those that insert marks. Statements, loops, functions, classes, `with`, `try`.
 
 const { mayWait } = require('../syntax/children.js');
 const { Scope, scopeOf } = require('../syntax/scopes.js');

@@ -1,5 +1,6 @@
 'use strict';
-// What the trace and its names say of single accesses: their values, and how a variable is used elsewhere in the trace.
+// What the trace and its names say of single accesses: their values, and how a variable is used elsewhere in the trace. Whether a value is the same, a flag, a
+// counter, or lazily initialized (a cache that is filled if it is empty).
 
 const { FIRST_MODULE } = require('../../common/numbers.js');
 const { isOfTree } = require('../../races/spelled-locations.js');

@@ -1,5 +1,5 @@
 'use strict';
-// The patterns: the name and the section of the list for each. Their order only decides between problems of one rank (list/rank.js).
+// The patterns: the name and the section of the list for each. Their order only decides between problems of one rank (list/rank.js). Categories of races.
 
 const LOSES = 'loses what a user does';
 const THROWS = 'may throw';

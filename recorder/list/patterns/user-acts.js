@@ -10,6 +10,7 @@ const USER_EVENTS = new Set(['click', 'dblclick', 'auxclick', 'contextmenu', 'mo
 /** The reason of an interval that is the run of such an address (page/scripts/addresses.js). */
 const ADDRESS = 'a javascript: address';
 
+/** A part of `Looks`. */
 class UserActs {
   /**
    * @param {import('../types').Names} names

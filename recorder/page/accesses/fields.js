@@ -1,4 +1,5 @@
 // The values of form fields, cookies and storage: variables of objects of their own. Of storage not seen: `length`, `key(n)`, `clear()`, and with
+// `input.value`, `checked`, `select.selectedIndex`, `document.cookie`, `localStorage.setItem` and `getItem`, `sessionStorage`.
 // `--depth globals` accesses without a method.
 
 import { each, findItem } from '../core/lists.js';
@@ -24,6 +25,7 @@ const LONGEST_KEY = 80;
 /** Fields in which a key changes the text whatever handlers do, unless they keep it from doing so. */
 const CHANGEABLE = ':is(input, textarea):read-write:not([maxlength])';
 
+/** One for each document: `page.fields`. */
 class Fields {
   /** @param {import('../types').Page} page */
   constructor(page) {

@@ -12,6 +12,7 @@ const RADIOS = 'input[type="radio" i]';
 /** Types whose value is their attribute: a form does not reset them. */
 const WITHOUT_VALUE = /^(hidden|submit|button|reset|image)$/i;
 
+/** A part of `Fields`. */
 class Forms {
   /** @param {import('../types').Page} page */
   constructor(page) {

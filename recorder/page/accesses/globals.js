@@ -1,4 +1,4 @@
-// Global variables: the reads and writes of instrumented code.
+// Global variables: the reads and writes of instrumented code. `var` and function declarations at the top of scripts, and properties of the window.
 
 import { each } from '../core/lists.js';
 import { Map, Object, Set, Uint32Array } from '../core/taken.js';
@@ -19,6 +19,7 @@ function enlarged(numbers, index) {
   return longer;
 }
 
+/** One for each document: `page.globals`. */
 class Globals {
   /** @param {import('../types').Page} page */
   constructor(page) {

@@ -1,4 +1,5 @@
-// Imported names: a read of one is a read of the variable of the module that exports it; a module can export what another one exports.
+// Imported names: a read of one is a read of the variable of the module that exports it; a module can export what another one exports. ES module bindings are
+// live: a reader sees later writes.
 
 import { each } from '../core/lists.js';
 import { Map } from '../core/taken.js';
@@ -18,6 +19,7 @@ const MOST_HANDED_ON = 16;
  * @typedef {{module: Module, name: string}} Export
  */
 
+/** One for each document: `page.imports`. */
 class Imports {
   /** @param {import('../types').Page} page */
   constructor(page) {

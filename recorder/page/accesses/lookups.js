@@ -1,4 +1,4 @@
-// Lookups of elements by their ids.
+// Lookups of elements by their ids. `getElementById`, `querySelector`, `matches` and `closest` with a `#id`: each is a read, also if it finds nothing.
 
 import { each } from '../core/lists.js';
 import { replaceMethod } from '../core/replacing.js';
@@ -51,6 +51,7 @@ function idsOfSelector(selector) {
   return ids;
 }
 
+/** One for each document: `page.lookups`. */
 class Lookups {
   /** @param {import('../types').Page} page */
   constructor(page) {

@@ -11,6 +11,7 @@ import { digestOf } from '../log/values.js';
  * @typedef {{enumerable?: unknown, value?: unknown}} GivenDescriptor
  */
 
+/** One for each document: `page.unseen`. */
 class Unseen {
   /** @param {import('../types').Page} page */
   constructor(page) {

@@ -1,4 +1,5 @@
-// The same chance in each run, for comparing runs: random numbers by a seed, and a clock that begins at the same time.
+// The same chance in each run, for comparing runs: random numbers by a seed, and a clock that begins at the same time. `Math.random`, `Date.now` and `new
+// Date()` become deterministic.
 
 import { putConstructor, replaceMethod } from './replacing.js';
 import { Math, Reflect, apply } from './taken.js';

@@ -1,4 +1,4 @@
-// Objects that the page can get hold of, without a way from them to the recorder.
+// Objects that the page can get hold of, without a way from them to the recorder. The page sees no properties and no prototype of them.
 
 import { Object, Reflect } from './taken.js';
 

@@ -1,5 +1,5 @@
 // What the recorder does with lists. Pages put functions of their own in the place of those that arrays have, so it uses none of them
-// once the page runs.
+// once the page runs. A page may override `Array.prototype.push` and others (monkey patching, polyfills).
 
 import { Array, apply } from './taken.js';
 

@@ -1,4 +1,4 @@
-// The browser's own functions, taken before any script of the page can change them.
+// The browser's own functions, taken before any script of the page can change them. Getters and methods of the DOM, as `addEventListener`, `querySelector`.
 
 import { apply, getOwnPropertyDescriptor } from './taken.js';
 import { takeFirst } from './lists.js';
@@ -17,9 +17,11 @@ function takeNatives(window) {
     querySelectorAllOfFragment: DocumentFragment.prototype.querySelectorAll,
     getRootNode: Node.prototype.getRootNode,
     shadowRoot: getterOf(Element.prototype, 'shadowRoot'),
+    assignedNodes: window.HTMLSlotElement.prototype.assignedNodes,
     getAttribute: Element.prototype.getAttribute,
     setAttribute: Element.prototype.setAttribute,
     hasAttribute: Element.prototype.hasAttribute,
+    nameOfAttribute: getterOf(window.Attr.prototype, 'name'),
     getAttributeNames: Element.prototype.getAttributeNames,
     remove: Element.prototype.remove,
     contains: Node.prototype.contains,
@@ -51,6 +53,8 @@ function takeNatives(window) {
     setTimeout: window.setTimeout.bind(window),
     localStorage: getterOf(window, 'localStorage'),
     sessionStorage: getterOf(window, 'sessionStorage'),
+    navigation: window.Navigation && navigationGetters(window),
+    aborted: getterOf(window.AbortSignal.prototype, 'aborted'),
     transaction: window.IDBDatabase && window.IDBDatabase.prototype.transaction,
     count: window.IDBObjectStore && window.IDBObjectStore.prototype.count,
     requestAnimationFrame: window.requestAnimationFrame.bind(window),
@@ -83,6 +87,13 @@ function getterOf(owner, name) {
 function setterOf(owner, name) {
   return /** @type {(this: T, value: T[K]) => void} */ (getOwnPropertyDescriptor(owner, name)?.set);
 }
+
+/** @param {import('../types').PageWindow} window */
+const navigationGetters = ({ Navigation, NavigationHistoryEntry }) => ({
+  entries: Navigation.prototype.entries,
+  currentEntry: getterOf(Navigation.prototype, 'currentEntry'),
+  key: getterOf(NavigationHistoryEntry.prototype, 'key'),
+});
 
 /** @param {HTMLInputElement|HTMLTextAreaElement} owner */
 const selectionGetters = (owner) => ({ start: getterOf(owner, 'selectionStart'), end: getterOf(owner, 'selectionEnd') });

@@ -1,4 +1,5 @@
-// Functions, constructors and properties of the recorder in place of the browser's; the page finds their names and texts as before.
+// Functions, constructors and properties of the recorder in place of the browser's; the page finds their names and texts as before. A hook is a wrapper (monkey
+// patch) around a method, a getter, a setter or a constructor.
 
 import { each } from './lists.js';
 import { Object, Reflect, WeakMap, apply } from './taken.js';

@@ -1,4 +1,5 @@
-// What a script sets at an element, by a property or an attribute: what the element loads, and handler attributes.
+// What a script sets at an element, by a property or an attribute: what the element loads, and handler attributes. `img.src = ..`, `setAttribute('src', ..)`,
+// `script.src`, `link.href`, `integrity`.
 
 import { each, hasItem } from '../core/lists.js';
 import { replaceGetter, replaceMethod, replaceProperty } from '../core/replacing.js';
@@ -13,10 +14,14 @@ const SOURCES = [['HTMLScriptElement', 'src'], ['HTMLImageElement', 'src'], ['HT
 /** By the element's name: the attributes; `image` is one of SVG. */
 const SOURCES_OF = new Map([['script', ['src']], ['img', ['src', 'srcset']], ['source', ['srcset']], ['input', ['src']], ['image', ['href']], ['iframe', ['src', 'srcdoc']],
   ['frame', ['src']], ['object', ['data']], ['embed', ['src']], ['link', ['href']]]);
+/** Methods besides `setAttribute` that change an attribute: those that get its name, and those that get its node. */
+const BY_NAME = ['removeAttribute', 'toggleAttribute'];
+const BY_NODE = ['setAttributeNode', 'setAttributeNodeNS', 'removeAttributeNode'];
 const XLINK = 'http://www.w3.org/1999/xlink';
 /** What a script with it would lack is its copy, which has another text: it is not set. */
 const INTEGRITY = 'integrity attributes that scripts set, dropped';
 
+/** One for each document: `page.attributes`. */
 class Attributes {
   /** @param {import('../types').Page} page */
   constructor(page) {
@@ -36,6 +41,9 @@ class Attributes {
     replaceProperty(window.HTMLScriptElement.prototype, 'integrity', () => ({ set() { recording.log.miss(INTEGRITY); } }));
     this.#replaceSetAttribute();
     this.#replaceSetAttributeOfNamespace();
+    each(BY_NAME, (name) => this.#replaceChange(name, (given) => given));
+    each(BY_NODE, (name) => this.#replaceChange(name, (node) => this.#nameOf(node)));
+    this.#replaceChange('removeAttributeNS', (_namespace, given) => given);
   }
 
   // ---- what an element loads
@@ -108,6 +116,33 @@ class Attributes {
       }
       return result;
     });
+  }
+
+  /**
+   * A handler attribute can come and go by calls other than `setAttribute`.
+   * @param {string} name of the method
+   * @param {(first: unknown, second: unknown) => unknown} nameIn the name of the attribute, in the arguments
+   */
+  #replaceChange(name, nameIn) {
+    const { natives: { getAttribute }, onHandlers, recording, window } = this.page;
+    replaceMethod(window.Element.prototype, name, (native) => function change(first, second) {
+      const given = !recording.isOver && recording.isRunning() ? nameIn(first, second) : '';
+      const key = typeof given === 'string' ? lowerCase(given) : '';
+      if (!onHandlers.isHandler(key)) return apply(native, this, arguments);
+      const before = apply(getAttribute, this, [key]);
+      const result = apply(native, this, arguments);
+      onHandlers.changeAttribute(this, sliceOf(key, 2), before, apply(getAttribute, this, [key]));
+      return result;
+    });
+  }
+
+  /** @param {unknown} node what the page passes as an attribute node */
+  #nameOf(node) {
+    try {
+      return apply(this.page.natives.nameOfAttribute, /** @type {Attr} */ (node), []);
+    } catch { // the call throws too
+      return '';
+    }
   }
 
   #replaceSetAttributeOfNamespace() {

@@ -1,4 +1,4 @@
-// Elements: their numbers, their declarations, and the elements that stand for others in a dispatch.
+// Elements: their numbers, their declarations, and the elements that stand for others in a dispatch. Their tag, id, classes and source, as the view shows them.
 
 import { hasItem, keep, mapped } from '../core/lists.js';
 import { fits, sliceOf, withoutFragment } from '../core/strings.js';
@@ -18,6 +18,7 @@ const LONGEST_ADDRESS = 2000;
 /** @typedef {import('../types').Target} Target */
 /** @typedef {import('../types').Moment} Moment */
 
+/** One for each document: `page.elements`. */
 class Elements {
   /** @param {import('../types').Page} page */
   constructor(page) {
@@ -227,9 +228,12 @@ class Elements {
   /** Writes the parse steps of what the last script made, as its run is over. Called at the start of a task, and before further parse steps. */
   writeJoining() {
     if (!this.joining.size) return;
-    const { joining } = this;
+    const { joining, page } = this;
     this.joining = new Map();
-    joining.forEach(({ kind, element }, number) => this.page.tree.writeParsed(element, number, kind));
+    joining.forEach(({ kind, element }, number) => {
+      const isPlain = kind === 'image' && page.kinds.isLazy(element); // the script has made it lazy meanwhile
+      page.tree.writeParsed(element, number, isPlain ? 'plain' : kind);
+    });
   }
 
   /**

@@ -1,4 +1,5 @@
-// The kind of an element as the format has it (docs/recording.md, "The document and the parser"): what its run or its load is ordered by.
+// The kind of an element as the format has it (docs/recording.md, "The document and the parser"): what its run or its load is ordered by. A script is blocking,
+// `async`, `defer`, a module or inserted; a style sheet, an image, a frame.
 
 import { settings } from '../core/settings.js';
 import { PATTERNS, fits } from '../core/strings.js';

@@ -1,4 +1,5 @@
-// The events of a document's loading, and the load events of its elements.
+// The events of a document's loading, and the load events of its elements. `readystatechange`, `DOMContentLoaded` (after deferred scripts), `load`, `pageshow`,
+// `beforeunload`, and `load` and `error` (`onload`, `onerror`) of images, scripts, style sheets and frames.
 
 import { each, hasItem, joined, positionOf } from '../core/lists.js';
 import { fits } from '../core/strings.js';
@@ -15,6 +16,7 @@ const LEAVING = ['beforeunload', 'pagehide', 'visibilitychange', 'unload'];
 /** @typedef {import('../types').NewDispatch} NewDispatch */
 /** @typedef {import('../events/dispatches.js').EventDispatch} EventDispatch */
 
+/** One for each document: `page.loading`. */
 class Loading {
   /** @param {import('../types').Page} page */
   constructor(page) {
@@ -97,7 +99,10 @@ class Loading {
     return event.type === 'load' || event.type === 'error' ? this.#beginOfElement(dispatch) : false;
   }
 
-  /** @param {EventDispatch} dispatch */
+  /**
+   * Begins `readystatechange`, `DOMContentLoaded` or `load` of the document or its window, if the dispatch is one. Returns whether it is.
+   * @param {EventDispatch} dispatch
+   */
   #beginOfDocument(dispatch) {
     const { event } = dispatch;
     const state = this.page.document.readyState;
@@ -120,6 +125,7 @@ class Loading {
     const { recording, page } = this;
     const { elements, scripts, tree } = page;
     const standIn = recording.next('element');
+    dispatch.awaits = page;
     recording.noteBeside(tree.lastParsed, `new ${page.number} ${standIn} plain`);
     recording.log.name('element', standIn, { standsFor: elements.number(page.document), why: 'the end of parsing' });
     const isAfterRun = this.lastRun.number === tree.lastParsed; // else a parse step stands between
@@ -134,7 +140,7 @@ class Loading {
    * @param {number} number
    */
   noteRunOf(number) {
-    this.lastRun = { number, end: this.recording.moment() };
+    this.lastRun = { number, end: this.recording.moment() || this.recording.lastMoment() };
   }
 
   /** A deferred script begins to run. */
@@ -174,6 +180,7 @@ class Loading {
   }
 
   /**
+   * Begins the dispatch that the rules know as the end of parsing (`dcl`) or of loading (`load`), after what it waits for.
    * @param {NewDispatch} dispatch
    * @param {'dcl'|'load'} end
    */
@@ -263,14 +270,23 @@ class Loading {
    * @param {boolean} isOfParser whether the parser goes on only after it
    */
   #noteAwaited(dispatch, number, isOfParser) {
-    const { elements, tree } = this.page;
-    const isMade = elements.awaited.has(number);
+    const { elements, kinds, tree } = this.page;
+    const isMade = elements.awaited.has(number) && !kinds.isLazy(/** @type {Element} */ (dispatch.target));
     if (isMade || tree.staticLoads.has(number)) dispatch.awaits = this.page;
     dispatch.whenClosed = () => {
       if (isMade && !this.hasBegunLoad) this.awaited[this.awaited.length] = this.recording.lastMoment();
       if (isOfParser) this.page.observers.noteBeforeScript();
       this.page.inOrder.ends(number);
     };
+  }
+
+  /**
+   * An inline module that a script inserted runs, for which load waits: it has no load event. What it does after an import that waits is another event.
+   * @param {number} number
+   * @param {Moment} moment
+   */
+  noteAwaitedRun(number, moment) {
+    if (this.page.elements.awaited.has(number) && !this.hasBegunLoad) this.awaited[this.awaited.length] = moment;
   }
 }
 

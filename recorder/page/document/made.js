@@ -9,6 +9,7 @@ const LOADS_AT_ONCE = 'img, image, audio, video';
 /** `nodeType` of a fragment. */
 const FRAGMENT = 11;
 
+/** One for each document: `page.made`. */
 class Made {
   /** @param {import('../types').Page} page */
   constructor(page) {
@@ -33,6 +34,8 @@ class Made {
     const made = this;
     replaceMethod(owner, name, (native) => function make() {
       const node = apply(native, this, arguments);
+      const { insertions, natives } = made.page;
+      if (name === 'createContextualFragment') each(apply(natives.querySelectorAllOfFragment, node, ['script']), (script) => insertions.noteMade(script));
       made.#noteTree(node);
       return node;
     });

@@ -1,19 +1,31 @@
-// Custom elements that the parser makes: in which action their reactions run, while no code is on the stack.
+// Custom elements that the parser makes: in which action their reactions run, while no code is on the stack. `connectedCallback`, `attributeChangedCallback`
+// and constructors of web components.
 
 import { each } from '../core/lists.js';
 import { replaceMethod } from '../core/replacing.js';
+import { fits } from '../core/strings.js';
 import { Map, Reflect, apply, getOwnPropertyDescriptor } from '../core/taken.js';
 import { nameOfFunction } from '../log/values.js';
 
 /** The reactions that the browser calls for elements of the parser, and takes from the prototype before any other code of the page runs in `define`. */
 const REACTIONS = ['connectedCallback', 'attributeChangedCallback', 'formAssociatedCallback', 'formDisabledCallback'];
+/** Those that the parser calls in the order of an upgrade. */
+const IN_ORDER = /^(connected|attributeChanged)Callback$/;
+/** `Node.DOCUMENT_POSITION_DISCONNECTED` and `.._FOLLOWING`. */
+const IS_APART = 1;
+const FOLLOWS = 4;
 
 /** @typedef {import('../types').Moment} Moment */
 /**
- * A reaction of one definition: its name, who defined it, and whether the parser has waited for that.
- * @typedef {{name: string, function: string|undefined, moment: Moment|null, isBefore: boolean}} Reaction
+ * The last reaction of one definition that ran apart: its element, and its end.
+ * @typedef {{element: Element|null, end: Moment|null}} Former
+ */
+/**
+ * A reaction of one definition: its name, who defined it, whether the parser has waited for that, and the one that ran before it.
+ * @typedef {{name: string, function: string|undefined, moment: Moment|null, isBefore: boolean, former: Former|null}} Reaction
  */
 
+/** One for each document: `page.reactions`. */
 class Reactions {
   /** @param {import('../types').Page} page */
   constructor(page) {
@@ -89,8 +101,10 @@ class Reactions {
     const restores = [];
     const prototype = typeof constructor === 'function' ? getOwnPropertyDescriptor(constructor, 'prototype')?.value : null;
     if (typeof prototype !== 'object' || !prototype) return restores;
+    /** @type {Former} */
+    const former = { element: null, end: null };
     each(REACTIONS, (name) => {
-      const restore = name in prototype && this.#replaceReaction(prototype, name);
+      const restore = name in prototype && this.#replaceReaction(prototype, name, fits(IN_ORDER, name) ? former : null);
       if (restore) restores[restores.length] = restore;
     });
     return restores;
@@ -99,9 +113,10 @@ class Reactions {
   /**
    * @param {object} prototype
    * @param {string} name
+   * @param {Former|null} former
    * @returns {(() => void)|null} null if the page allows no other property there
    */
-  #replaceReaction(prototype, name) {
+  #replaceReaction(prototype, name, former) {
     const reactions = this;
     const own = getOwnPropertyDescriptor(prototype, name);
     let isReplaced = true;
@@ -111,7 +126,7 @@ class Reactions {
     const get = () => {
       restore();
       const callback = Reflect.get(prototype, name);
-      return typeof callback === 'function' ? reactions.#wrap(callback, reactions.#describe(name, callback)) : callback;
+      return typeof callback === 'function' ? reactions.#wrap(callback, reactions.#describe(name, callback, former)) : callback;
     };
     if (own && !own.configurable) return null;
     return Reflect.defineProperty(prototype, name, { configurable: true, enumerable: !!own && own.enumerable, get }) ? restore : null;
@@ -121,12 +136,13 @@ class Reactions {
    * What is known of a callback as its class is defined.
    * @param {string} name
    * @param {Function} callback
+   * @param {Former|null} former
    * @returns {Reaction}
    */
-  #describe(name, callback) {
+  #describe(name, callback, former) {
     const moment = this.recording.moment();
     const isBefore = !!moment && (moment.event.blocks === this.page || moment.event.parsed === this.page.number);
-    return { name, function: nameOfFunction(callback), moment, isBefore };
+    return { name, function: nameOfFunction(callback), moment, isBefore, former };
   }
 
   /**
@@ -191,7 +207,29 @@ class Reactions {
     const handler = joins.registerIn(reaction.moment, { type: reaction.name, function: reaction.function });
     const place = step ? elements.standInIn(step, element, 'its reaction') : jobs.place;
     const type = step ? reaction.name : `${reaction.name}-${this.recording.next('reaction')}`;
-    return jobs.runAsHandler(dispatches.beginPlain(place, type), handler, { v: null, moment: reaction.moment }, call);
+    const asked = { v: null, moment: reaction.moment, others: [this.#endBefore(element, reaction.former)], why: 'the reaction before' };
+    try {
+      return jobs.runAsHandler(dispatches.beginPlain(place, type), handler, asked, call);
+    } finally {
+      if (reaction.former) {
+        reaction.former.element = element;
+        reaction.former.end = this.recording.lastMoment();
+      }
+    }
+  }
+
+  /**
+   * The end of the reaction before, if it is of this element or of one before it in the tree: an upgrade of both would call it first, too. What the parser is
+   * about to insert comes last, except before a table around the other.
+   * @param {Element} element
+   * @param {Former|null} former
+   */
+  #endBefore(element, former) {
+    if (!former?.element) return null;
+    const { compareDocumentPosition, matches } = this.page.natives;
+    const position = apply(compareDocumentPosition, former.element, [element]);
+    const comesLater = (position & IS_APART) !== 0 ? !apply(matches, former.element, ['table *']) : (position & FOLLOWS) !== 0;
+    return former.element === element || comesLater ? former.end : null;
   }
 }
 

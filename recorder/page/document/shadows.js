@@ -5,6 +5,7 @@ import { each, findItem, hasItem } from '../core/lists.js';
 import { withoutFragment } from '../core/strings.js';
 import { apply } from '../core/taken.js';
 
+/** One for each document: `page.shadows`. */
 class Shadows {
   /** @param {import('../types').Page} page */
   constructor(page) {

@@ -14,6 +14,7 @@ const BY_KIND = /^(link|input|image)$/;
  * @typedef {{number: number, inner: number, isPassing?: boolean, isFirst?: boolean, isOver?: boolean}} Load
  */
 
+/** One for each document: `page.sources`. */
 class Sources {
   /** @param {import('../types').Page} page */
   constructor(page) {
@@ -30,11 +31,12 @@ class Sources {
    */
   noteSource(element) {
     const { recording, elements } = this;
+    const mayStillRun = this.#mayStillRun(element);
     this.page.insertions.noteSource(element);
     if (!recording.isRunning() || !recording.declared.has(elements.number(element))) return;
     if (elements.makers.get(element) === recording.running) return;
     const isScript = element.localName === 'script';
-    if (isScript ? !this.#mayStillRun(element) : fits(BY_KIND, element.localName) && this.page.kinds.of(element, false) === 'plain') return;
+    if (isScript ? !mayStillRun : fits(BY_KIND, element.localName) && this.page.kinds.of(element, false) === 'plain') return;
     const isFrame = fits(SHOWS_PAGE, element.localName);
     const isFirst = fits(/^(img|input)$/, element.localName) && !this.#hasSource(element);
     this.standIn(element, isScript ? 'async' : isFrame ? 'frame' : 'image', 'its source was set').isFirst = isFirst;
@@ -86,11 +88,15 @@ class Sources {
   }
 
   /**
-   * A script that was empty runs once it gets a source.
+   * A script that was empty runs once it gets a source; so does a data block with a source that has become a script, and gets another one.
    * @param {Element} element
    */
   #mayStillRun(element) {
-    return !this.elements.has(element, 'src') && !this.page.scripts.hasRun.has(this.elements.number(element));
+    const { elements, page: { insertions, kinds, scripts } } = this;
+    if (element.localName !== 'script' || scripts.hasRun.has(elements.number(element))) return false;
+    if (!elements.has(element, 'src')) return true;
+    const wasData = elements.kinds.get(elements.number(element)) === 'plain' && elements.attribute(element, 'src') !== '';
+    return wasData && !insertions.started.has(element) && kinds.scriptType(element) !== null;
   }
 
   /**

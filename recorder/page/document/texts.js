@@ -7,6 +7,7 @@ import { apply } from '../core/taken.js';
 /** `nodeType` of a text. */
 const TEXT = 3;
 
+/** A part of `Tree`. */
 class Texts {
   /** @param {import('../types').Page} page */
   constructor(page) {

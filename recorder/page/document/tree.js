@@ -1,4 +1,5 @@
-// Changes of a document's tree, as a mutation observer reports them. What changes while no script runs is the parser's: each element is a parse step.
+// Changes of a document's tree, as a mutation observer reports them. What changes while no script runs is the parser's: each element is a parse step. Nodes
+// that are added to the DOM, moved or removed from it, and attributes that change.
 
 import { each, findItem, joined } from '../core/lists.js';
 import { Set, WeakMap, apply } from '../core/taken.js';
@@ -249,12 +250,12 @@ class Tree {
     this.writeParsed(element, this.elements.number(element), kind);
   }
 
-  /** A script in a closed shadow tree, which nothing finds, is made as it begins to run. */
-  addHiddenScript() {
+  /** A script in a closed shadow tree, which nothing finds, is made as it begins to run; so is what stands for a broken import map. */
+  addHiddenScript(/** @type {import('../types').Facts} */ facts = { tag: 'script', document: this.page.number }) {
     const number = this.recording.next('element');
     this.recording.declared.add(number);
     this.elements.kinds.set(number, 'inline');
-    this.recording.log.name('element', number, { tag: 'script', document: this.page.number });
+    this.recording.log.name('element', number, facts);
     this.writeParsed(null, number, 'inline');
     return number;
   }

@@ -30,6 +30,7 @@ const DISPATCHERS = [
 /** Elements that are declared where a script inserts them, as their kind is not known before. */
 const DECLARED_AT_INSERTION = new Set(['script', 'iframe', 'frame', 'link', 'object', 'embed']);
 
+/** One for each document: `page.calls`. */
 class Calls {
   /** @param {import('../types').Page} page */
   constructor(page) {
@@ -84,11 +85,28 @@ class Calls {
   replaceCall(owner, name, isInsertion) {
     const calls = this;
     const around = isInsertion && fits(/^write(ln)?$/, name) ? (/** @type {() => any} */ call) => calls.#aroundWrite(call) : (/** @type {() => any} */ call) => calls.around(call, isInsertion);
+    const isOpener = isInsertion && fits(/^(open|write(ln)?)$/, name);
     replaceMethod(owner, name, (native) => function called(...words) {
       if (isInsertion) each(words, (word) => calls.page.insertedModules.prepare(word));
+      if (!isOpener || this !== calls.page.document) return around(() => apply(native, this, words));
+      const before = calls.page.document.documentElement;
       const result = around(() => apply(native, this, words));
-      if (name === 'open' && isInsertion && this === calls.page.document) calls.page.capturing.captureAgain();
+      if (before !== calls.page.document.documentElement) calls.#noteOpened(name === 'open');
       return result;
+    });
+  }
+
+  /**
+   * All handlers of the document were removed, the recorder's too. What `document.write` wrote can have others by now.
+   * @param {boolean} isEmpty
+   */
+  #noteOpened(isEmpty) {
+    const { capturing, document, handlers, onHandlers, window } = this.page;
+    capturing.captureAgain();
+    if (!isEmpty || this.recording.isOver) return;
+    each([document, window], (target) => {
+      handlers.forgetAll(target);
+      onHandlers.forgetAll(target);
     });
   }
 
@@ -137,6 +155,7 @@ class Calls {
     const declare = (/** @type {Element} */ element) => {
       const { recording, page } = calls;
       recording.objects?.madeElements.note(element);
+      page.insertions.noteMade(element);
       const isMine = element.ownerDocument === page.document;
       if (!recording.isOver && recording.isRunning() && isMine && !DECLARED_AT_INSERTION.has(element.localName)) {
         page.elements.declaredNumber(element);

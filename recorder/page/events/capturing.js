@@ -1,4 +1,5 @@
 // The recorder's own listeners, which see each dispatch of a type begin before any handler of the page runs; and dispatches that no handler hears.
+// `stopPropagation` and `stopImmediatePropagation` of the page hide no event from them.
 
 import { each, valuesOf } from '../core/lists.js';
 import { Set, apply } from '../core/taken.js';
@@ -13,6 +14,7 @@ const ALWAYS_RECORDED = [
 /** `nodeType` of a shadow root. */
 const FRAGMENT = 11;
 
+/** One for each document: `page.capturing`. */
 class Capturing {
   /** @param {import('../types').Page} page */
   constructor(page) {
@@ -138,6 +140,7 @@ class Capturing {
     const { recording, page } = this;
     const isOfWindow = event.target === page.window;
     if (isOfWindow && recording.contexts[recording.contexts.length - 1] === 'script') {
+      page.scripts.noteEnd();
       this.#endCode(event);
       recording.leaveCall();
     } else if (isOfWindow && page.modules.isRunning()) {
@@ -161,7 +164,7 @@ class Capturing {
    */
   #beginError(event, isOfWindow) {
     const { recording } = this;
-    const isInEvent = isOfWindow && !recording.contexts.length && (recording.isCheckpoint || this.page.scripts.runBroken(event));
+    const isInEvent = isOfWindow && !recording.contexts.length && (recording.isCheckpoint || this.page.broken.run(event));
     if (isInEvent) recording.enter('call');
     this.#begin(event);
     if (isInEvent) recording.contexts.length--;

@@ -1,11 +1,13 @@
-// Calls and changes that queue an event: what opens and closes, the full screen, scrolling, selections, storage of another frame.
+// Calls and changes that queue an event: what opens and closes, the full screen, scrolling, selections, storage of another frame. `scrollTo`, `showModal`,
+// popovers, `<details>`, `requestFullscreen`, `select()`, `localStorage.setItem` in another frame.
 
-import { each, findItem, mapped } from '../core/lists.js';
+import { each, findItem, keep, mapped } from '../core/lists.js';
 import { replaceMethod, replaceProperty } from '../core/replacing.js';
 import { fits } from '../core/strings.js';
 import { apply } from '../core/taken.js';
 import { isElement } from '../core/things.js';
 
+/** One for each document: `page.causes`. */
 class Causes {
   /** @param {import('../types').Page} page */
   constructor(page) {
@@ -44,15 +46,37 @@ class Causes {
    * @param {(element: Element) => boolean} isOpen
    */
   #replaceOpening(owner, name, types, isOpen) {
+    const causes = this;
     const { queued, recording } = this;
     replaceMethod(owner, name, (native) => function change() {
       const before = isOpen(this);
+      const others = causes.#openPopovers(this);
       const result = apply(native, this, arguments);
+      causes.#noteClosed(others);
       if (isOpen(this) === before) return result;
       // the browser merges two `toggle` events, and no others
       each(types, (type) => (type === 'toggle' ? queued.noteAgain(this, type, recording.moment()) : queued.note(this, type, recording.moment())));
       return result;
     });
+  }
+
+  /**
+   * The open popovers, except an element that opens or closes: the browser can close them with it.
+   * @param {Element} except
+   */
+  #openPopovers(except) {
+    const { recording, page: { document, natives } } = this;
+    const root = document.documentElement;
+    return recording.isOver || !root ? [] : keep(apply(natives.querySelectorAll, root, [':popover-open']), (one) => one !== except);
+  }
+
+  /**
+   * The running code has opened or closed something: with it some popovers might have closed.
+   * @param {Element[]} popovers those that were open
+   */
+  #noteClosed(popovers) {
+    const { queued, recording, page: { natives } } = this;
+    each(popovers, (one) => { if (!apply(natives.matches, one, [':popover-open'])) queued.noteAgain(one, 'toggle', recording.moment()); });
   }
 
   /**

@@ -1,4 +1,5 @@
-// Which event is a consequence of which: what the browser does by itself once the handlers of a user's event are done, in the same task.
+// Which event is a consequence of which: what the browser does by itself once the handlers of a user's event are done, in the same task. `mousedown` after
+// `pointerdown`, `click` after `mouseup`, `keypress` and `input` after `keydown`.
 
 import { hasItem } from '../core/lists.js';
 import { Map, Set } from '../core/taken.js';

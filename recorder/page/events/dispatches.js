@@ -15,6 +15,7 @@ import { hasConsequences, isConsequence } from './consequences.js';
  * @typedef {Dispatch & {event: Event, target: Target}} EventDispatch
  */
 
+/** One for each document: `page.dispatches`. */
 class Dispatches {
   /** @param {import('../types').Page} page */
   constructor(page) {
@@ -75,6 +76,7 @@ class Dispatches {
       this.#beginAlone(dispatch);
     }
     recording.push(dispatch);
+    if (event.type === 'slotchange') page.observers.orderSlotChange(dispatch);
     if (event.isTrusted && hasConsequences(event.type)) recording.watchTask();
     page.tree.writeLate();
     this.readSlots(path.length ? path : [target], event.type);
@@ -150,7 +152,10 @@ class Dispatches {
     return true;
   }
 
-  /** @param {EventDispatch} dispatch */
+  /**
+   * Begins a dispatch that is in no other one: a reply to a request, a load, a message, an event with a noted cause, or any other.
+   * @param {EventDispatch} dispatch
+   */
   #beginAlone(dispatch) {
     const { event, target } = dispatch;
     const { recording, page } = this;
@@ -165,7 +170,10 @@ class Dispatches {
     recording.log.name('dispatch', dispatch.number, { type: event.type, act: (event.isTrusted && recording.act) || undefined });
   }
 
-  /** @param {EventDispatch} dispatch */
+  /**
+   * Begins a dispatch of whose cause nothing is known, at its target.
+   * @param {EventDispatch} dispatch
+   */
   #beginAt(dispatch) {
     const { event, target } = dispatch;
     const { recording, page } = this;

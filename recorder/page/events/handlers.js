@@ -1,7 +1,9 @@
-// Handlers: their slots, and listeners. A registration is a write of a slot of its target.
+// Handlers: their slots, and listeners. A registration is a write of a slot of its target. `addEventListener`, `removeEventListener`, `once`, `signal`: each
+// listener is wrapped.
 
-import { findItem, valuesOf } from '../core/lists.js';
+import { each, findItem, keysOf, valuesOf } from '../core/lists.js';
 import { replaceMethod } from '../core/replacing.js';
+import { hasEnd, sliceOf } from '../core/strings.js';
 import { Map, String, WeakMap, apply } from '../core/taken.js';
 import { isThing } from '../core/things.js';
 import { spellName } from '../log/spelling.js';
@@ -12,10 +14,16 @@ import { spellName } from '../log/spelling.js';
  * @typedef {Function|{handleEvent: Function}} Listener
  */
 /**
- * The listeners of one target, type and phase, with what the browser has in place of each.
- * @typedef {Map<Listener, {handler: number, wrapped: import('../types').Method}>} Registered
+ * A listener of one target, type and phase: what the browser has in its place, also after a removal, so that the browser knows it again; the number of
+ * its handler, 0 before the first registration; whether a run removes it; and the number of the next registration, or 0.
+ * @typedef {{handler: number, wrapped: import('../types').Method, isOnce: boolean, next: number}} Registration
+ */
+/**
+ * The listeners of one target, type and phase: those that are registered, and all that once were.
+ * @typedef {{now: Map<Listener, Registration>, ever: WeakMap<Listener, Registration>}} Registered
  */
 
+/** One for each document: `page.handlers`. */
 class Handlers {
   /** @param {import('../types').Page} page */
   constructor(page) {
@@ -62,10 +70,10 @@ class Handlers {
    * @param {string} type
    * @param {unknown} given the function, as the page gives it
    * @param {boolean} isListener
+   * @param {number} [handler] its number, if it has one already
    * @returns {number} the number of the handler
    */
-  register(target, type, given, isListener) {
-    const handler = this.recording.next('handler');
+  register(target, type, given, isListener, handler = this.recording.next('handler')) {
     const place = this.recording.noteAsking(`on ${handler}`);
     this.recording.steering.watch(target, type);
     this.page.elements.declaredNumber(target);
@@ -98,7 +106,7 @@ class Handlers {
   hasOneOf(target, type, event) {
     const { dispatches: { registrars }, onHandlers } = this.page;
     const isOfIt = (/** @type {number|undefined} */ handler) => handler !== undefined && registrars.get(handler) === event;
-    const hasListener = (/** @type {boolean} */ isCapture) => !!findItem(valuesOf(this.#registrations(target, type, isCapture)), ({ handler }) => isOfIt(handler));
+    const hasListener = (/** @type {boolean} */ isCapture) => !!findItem(valuesOf(this.#registrations(target, type, isCapture).now), ({ handler }) => isOfIt(handler));
     return isOfIt(onHandlers.ofProperty(target, type)) || hasListener(false) || hasListener(true);
   }
 
@@ -114,7 +122,7 @@ class Handlers {
     const key = `${type}|${isCapture}`;
     const byKey = this.listeners.get(target) || new Map();
     this.listeners.set(target, byKey);
-    if (!byKey.has(key)) byKey.set(key, new Map());
+    if (!byKey.has(key)) byKey.set(key, { now: new Map(), ever: new WeakMap() });
     return byKey.get(key);
   }
 
@@ -126,34 +134,54 @@ class Handlers {
    * @param {AddEventListenerOptions|undefined} options
    */
   #wrapListener(target, type, listener, options) {
+    if (this.#isAborted(options)) return listener; // the browser does not add it
     const isCapture = isCapturing(options);
     const registered = this.#registrations(target, type, isCapture);
-    const known = registered.get(listener);
+    const known = registered.now.get(listener);
     if (known) return known.wrapped;
-    const handler = this.register(target, type, typeof listener === 'function' ? listener : listener.handleEvent, true);
-    if (isCapture) this.page.dispatches.capturers.add(handler);
-    const isOnce = typeof options === 'object' && options !== null && !!options.once;
-    const wrapped = this.#wrapFunction(handler, target, type, listener, isOnce ? registered : null);
-    registered.set(listener, { handler, wrapped });
-    this.#watchSignal(target, type, handler, options, registered, listener);
-    return wrapped;
+    const registration = this.#registrationOf(target, type, listener, registered);
+    const { next } = registration;
+    registration.next = 0;
+    registration.handler = this.register(target, type, typeof listener === 'function' ? listener : listener.handleEvent, true, next || undefined);
+    if (isCapture) this.page.dispatches.capturers.add(registration.handler);
+    registration.isOnce = typeof options === 'object' && options !== null && !!options.once;
+    registered.now.set(listener, registration);
+    this.#watchSignal(target, type, options, registered, listener);
+    return registration.wrapped;
+  }
+
+  /**
+   * @param {EventTarget} target
+   * @param {string} type
+   * @param {Listener} listener
+   * @param {Registered} registered
+   * @returns {Registration}
+   */
+  #registrationOf(target, type, listener, { now, ever }) {
+    const former = ever.get(listener);
+    if (former) return former;
+    /** @type {Registration} */
+    const registration = { handler: 0, isOnce: false, next: 0, wrapped: this.#wrapFunction(target, type, listener, now, () => registration) };
+    ever.set(listener, registration);
+    return registration;
   }
 
   /**
    * The function that the browser calls in place of a listener. With `{ once: true }` its run also removes it: a write of its slot.
-   * @param {number} handler
    * @param {EventTarget} target
    * @param {string} type
    * @param {Listener} listener
-   * @param {Registered|null} onceIn where a listener that runs once is registered
+   * @param {Map<Listener, Registration>} now those that are registered
+   * @param {() => Registration} find
    * @returns {import('../types').Method}
    */
-  #wrapFunction(handler, target, type, listener, onceIn) {
+  #wrapFunction(target, type, listener, now, find) {
     const handlers = this;
     return function wrapped(event) {
+      const { handler, isOnce } = find();
       return handlers.page.dispatches.runHandler(handler, event, event.currentTarget, () => {
-        if (onceIn) {
-          onceIn.delete(listener);
+        if (isOnce) {
+          now.delete(listener);
           handlers.recording.access('w', handlers.slot(target, type, handler), '');
         }
         return typeof listener === 'function' ? apply(listener, this, [event]) : listener.handleEvent(event);
@@ -162,37 +190,72 @@ class Handlers {
   }
 
   /**
-   * With `{ signal }`, an abort removes the listener: a write of its slot.
+   * Whether the signal of a listener has been aborted.
+   * @param {AddEventListenerOptions|undefined} options
+   */
+  #isAborted(options) {
+    const signal = typeof options === 'object' && options !== null ? options.signal : null;
+    try {
+      return isThing(signal) && apply(this.natives.aborted, signal, []);
+    } catch { // no signal: the browser throws an error
+      return false;
+    }
+  }
+
+  /**
+   * With `{ signal }`, an abort removes the listener: a write of its slot. Chromium also removes one that was registered anew meanwhile.
    * @param {EventTarget} target
    * @param {string} type
-   * @param {number} handler
    * @param {AddEventListenerOptions|undefined} options
    * @param {Registered} registered
    * @param {Listener} listener
    */
-  #watchSignal(target, type, handler, options, registered, listener) {
+  #watchSignal(target, type, options, { now }, listener) {
     const signal = typeof options === 'object' && options !== null ? options.signal : null;
     if (!signal) return;
     apply(this.natives.addEventListener, signal, ['abort', () => {
-      if (!registered.delete(listener)) return;
-      this.recording.access('w', this.slot(target, type, handler));
+      const found = now.get(listener);
+      if (!found) return;
+      now.delete(listener);
+      this.recording.access('w', this.slot(target, type, found.handler));
     }, { once: true }]);
   }
 
   /**
-   * What `removeEventListener` removes, a listener's function. The removal is a write of its slot.
+   * `document.open` has removed all listeners of a target.
+   * @param {Target} target
+   */
+  forgetAll(target) {
+    const byKey = this.listeners.get(target) || new Map();
+    each(keysOf(byKey), (key) => {
+      const { now } = byKey.get(key);
+      const type = sliceOf(key, 0, hasEnd(key, '|true') ? -5 : -6);
+      each(valuesOf(now), ({ handler }) => this.recording.access('w', this.slot(target, type, handler)));
+      now.clear();
+    });
+  }
+
+  /**
+   * What `removeEventListener` removes, a listener's function. The removal is a write of its slot. One that finds nothing reads the slots of the last
+   * registration and of the next one.
    * @param {EventTarget} target
    * @param {string} type
    * @param {Listener} listener
    * @param {AddEventListenerOptions|undefined} options
    */
   #unwrapListener(target, type, listener, options) {
+    const { recording } = this;
+    if (!isThing(listener)) return listener;
     const registered = this.#registrations(target, type, isCapturing(options));
-    const found = registered.get(listener);
-    if (!found) return listener;
-    registered.delete(listener);
-    this.recording.access('w', this.slot(target, type, found.handler));
-    return found.wrapped;
+    const registration = this.#registrationOf(target, type, listener, registered);
+    const { handler, wrapped } = registration;
+    if (registered.now.delete(listener)) recording.access('w', this.slot(target, type, handler));
+    else if (!recording.isOver && recording.isRunning()) {
+      registration.next = registration.next || recording.next('handler');
+      if (handler) recording.access('r', this.slot(target, type, handler));
+      recording.access('r', this.slot(target, type, registration.next));
+    }
+    return wrapped;
   }
 }
 

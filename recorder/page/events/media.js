@@ -1,4 +1,5 @@
 // Events of media elements (video, audio): they come in later tasks, after who chose what is played, or after the call that plays it, pauses it or moves in it.
+// `loadedmetadata`, `canplay`, `play`, `playing`, `pause`, `ended`, `seeked`, `volumechange`.
 
 import { each } from '../core/lists.js';
 import { replaceMethod, replaceProperty } from '../core/replacing.js';
@@ -15,6 +16,7 @@ const CHANGES = new Map([['volume', 'volumechange'], ['muted', 'volumechange'], 
 
 /** @typedef {import('./queued.js').Cause} Cause */
 
+/** One for each document: `page.media`. */
 class Media {
   /** @param {import('../types').Page} page */
   constructor(page) {

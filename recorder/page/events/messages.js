@@ -1,5 +1,6 @@
 // Messages: `postMessage` of windows, of ports and of broadcast channels. Each message has a plain element, at which its listeners are handlers: in
-// version 2 its sender makes it, so that the message comes after its sender and no rule joins it with another one.
+// version 2 its sender makes it, so that the message comes after its sender and no rule joins it with another one. Also those of web workers, whose own code is
+// not recorded.
 
 import { each, findItem, hasItem, keep, takeFirst } from '../core/lists.js';
 import { putConstructor, replaceConstructor, replaceMethod } from '../core/replacing.js';
@@ -11,6 +12,7 @@ const tagOf = Object.prototype.toString;
 /** @typedef {import('../types').PageWindow} PageWindow */
 /** @typedef {import('./dispatches.js').EventDispatch} EventDispatch */
 
+/** One for each document: `page.messages`. */
 class Messages {
   /** @param {import('../types').Page} page */
   constructor(page) {
@@ -29,7 +31,8 @@ class Messages {
     const { window } = this.page;
     replaceMethod(window, 'postMessage', (native) => function postMessage() {
       const { 1: second } = arguments;
-      messages.#postTo(messages.#isForHere(second) ? [window] : [], window, arguments, () => apply(native, window, arguments));
+      const poster = messages.recording.takePoster() || messages;
+      messages.#postTo(messages.#isForHere(second) ? [window] : [], window, arguments, () => poster.callHere(native, window, arguments));
     });
     this.#replaceChannel(window);
     this.#replaceBroadcasts(window);
@@ -84,6 +87,16 @@ class Messages {
   }
 
   // ---- posting
+
+  /**
+   * Calls a function of the browser: what this window's code calls. The `source` of a message is the window of the newest function on the stack.
+   * @param {import('../types').Method} native
+   * @param {PageWindow} receiver
+   * @param {ArrayLike<any>} words
+   */
+  callHere(native, receiver, words) {
+    return apply(native, receiver, words);
+  }
 
   /**
    * A port hands out messages once it is started, whenever they were posted.

@@ -1,5 +1,5 @@
 // Events of transitions and animations: their cause is who changed the class or the style of the element or of one around it, if the motion starts soon
-// after that, and if nothing else there can have started it.
+// after that, and if nothing else there can have started it. `transitionend`, `animationstart`, `animationend` of CSS.
 
 import { findItem, keysOf } from '../core/lists.js';
 import { Map, WeakMap, apply } from '../core/taken.js';
@@ -26,6 +26,7 @@ const FRAGMENT = 11;
  * @typedef {{moment: Moment, time: number, isOfStyle: boolean, isMixed: boolean}} Change
  */
 
+/** One for each document: `page.motions`. */
 class Motions {
   /** @param {import('../types').Page} page */
   constructor(page) {

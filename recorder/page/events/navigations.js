@@ -1,6 +1,7 @@
 // Steps of the page's address (history): `navigate` comes before each, at once for a change of the fragment (hash), and for a way back when it is made.
+// `history.back`, `popstate`, `hashchange`, and `intercept` of the Navigation API.
 
-import { each, takeFirst } from '../core/lists.js';
+import { each, findItem, keep, mapped, positionOf } from '../core/lists.js';
 import { replaceMethod } from '../core/replacing.js';
 import { apply } from '../core/taken.js';
 import { isPlainObject } from '../core/things.js';
@@ -9,48 +10,102 @@ import { isPlainObject } from '../core/things.js';
 /** @typedef {import('../types').PageWindow} PageWindow */
 /**
  * The event of a step; TypeScript 4.8 has no type of it.
- * @typedef {Event & {navigationType: string, hashChange: boolean, destination: {url: string, sameDocument: boolean}}} NavigateEvent
+ * @typedef {Event & {navigationType: string, hashChange: boolean, destination: {key: string, url: string, sameDocument: boolean}}} NavigateEvent
+ */
+/**
+ * A call whose step has not come: where it was, unless it can be one of several, and the key of the page's entry if the call says which.
+ * @typedef {{moment: Moment|null, key?: string}} Step
  */
 
+/** One for each document: `page.navigations`. */
 class Navigations {
   /** @param {import('../types').Page} page */
   constructor(page) {
     this.page = page;
     this.recording = page.recording;
-    /**
-     * Calls of `history.back()` and the like whose step has not come.
-     * @type {Moment[]}
-     */
+    /** The page can put something else in its place. */
+    this.navigation = page.window.navigation;
+    /** @type {Step[]} */
     this.steps = [];
   }
 
   start() {
     const { window, natives } = this.page;
-    if (!window.navigation) return;
+    if (!this.navigation) return;
     this.#replaceSteps(window);
-    apply(natives.addEventListener, window.navigation, ['navigate', (/** @type {NavigateEvent} */ event) => this.#noteNavigation(event)]);
+    apply(natives.addEventListener, this.navigation, ['navigate', (/** @type {NavigateEvent} */ event) => this.#noteNavigation(event)]);
     this.#replaceIntercept(window.NavigateEvent.prototype);
   }
 
   /** @param {PageWindow} window */
   #replaceSteps(window) {
-    const { steps, recording } = this;
+    const navigations = this;
+    const { navigation, recording } = this;
     each(['back', 'forward', 'go'], (name) => replaceMethod(window.History.prototype, name, (native) => function step(delta) {
-      const { canGoBack, canGoForward } = window.navigation;
+      const { canGoBack, canGoForward } = navigation;
       const isForward = name === 'forward' || (name === 'go' && delta > 0);
       const moment = (isForward ? canGoForward : canGoBack) && recording.moment();
-      if (moment) steps[steps.length] = moment;
+      if (moment) navigations.#addStep({ moment });
+      return apply(native, this, arguments);
+    }));
+    each(['back', 'forward', 'traverseTo'], (name) => replaceMethod(window.Navigation.prototype, name, (native) => function step(key) {
+      if (this === navigation && !recording.isOver) navigations.#noteStepTo(navigations.#keyOf(name, key));
       return apply(native, this, arguments);
     }));
   }
 
+  #addStep(/** @type {Step} */ step) {
+    this.steps[this.steps.length] = step;
+  }
+
+  /**
+   * The key of the entry to which a call goes, or nothing if it goes nowhere.
+   * @param {string} name
+   * @param {unknown} given
+   * @returns {string|undefined}
+   */
+  #keyOf(name, given) {
+    const { navigation } = this.page.natives;
+    const keyOf = (/** @type {object|null} */ entry) => entry && apply(navigation.key, entry, []);
+    const keys = mapped(apply(navigation.entries, this.navigation, []), keyOf);
+    const current = positionOf(keys, keyOf(apply(navigation.currentEntry, this.navigation, [])));
+    const position = name === 'traverseTo' ? positionOf(keys, given) : current + (name === 'back' ? -1 : 1);
+    return current < 0 || position < 0 || position === current || position >= keys.length ? undefined : keys[position];
+  }
+
+  /**
+   * A call goes to an entry. If an earlier call does, the browser makes one step of both; one of them can have failed.
+   * @param {string|undefined} key
+   */
+  #noteStepTo(key) {
+    const { recording } = this;
+    const known = key && findItem(this.steps, (step) => step.key === key);
+    if (known && known.moment && !recording.isBeforeRunning(known.moment.event)) known.moment = null;
+    else if (key && !known) this.#addStep({ moment: recording.moment(), key });
+  }
+
+  /**
+   * The call of a step that comes now; nothing if it can be one of two.
+   * @param {string} key
+   * @returns {Moment|null|undefined}
+   */
+  #takeStep(key) {
+    const byKey = findItem(this.steps, (step) => step.key === key);
+    const byHistory = findItem(this.steps, (step) => !step.key);
+    this.steps = keep(this.steps, (step) => step !== byKey && step !== byHistory);
+    return byKey && byHistory ? null : (byKey || byHistory)?.moment;
+  }
+
   /** @param {NavigateEvent} event */
-  #noteNavigation({ navigationType, hashChange, destination }) {
+  #noteNavigation(event) {
     if (this.recording.isOver) return;
+    const { navigationType, hashChange, destination } = event;
     const { window, queued } = this.page;
     const isStep = navigationType === 'traverse';
-    const moment = isStep ? takeFirst(this.steps) : hashChange && queued.causeNow();
-    if (!moment || !destination.sameDocument) return;
+    const moment = isStep ? this.#takeStep(destination.key) : hashChange && queued.causeNow();
+    if (!moment) return;
+    if (isStep) queued.note(this.navigation, 'navigate', moment, (one) => one === event);
+    if (!destination.sameDocument) return;
     if (isStep) queued.note(window, 'popstate', moment);
     const { url } = destination;
     if (hashChange) queued.note(window, 'hashchange', moment, ({ newURL }) => newURL === url);
@@ -77,7 +132,7 @@ class Navigations {
    */
   #wrap(event, callback) {
     const navigations = this;
-    const { recording, page: { window: { navigation }, jobs, dispatches, queued, promises } } = this;
+    const { navigation, recording, page: { jobs, dispatches, queued, promises } } = this;
     const handler = jobs.registerJob(callback, 'intercept');
     const isEnd = (/** @type {Event} */ { type }) => type === 'navigatesuccess' || type === 'navigateerror';
     return function intercepted() {

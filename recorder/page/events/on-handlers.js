@@ -1,6 +1,6 @@
 // Handlers of `on..` properties and `on..` attributes (inline handlers, `onclick`): a target has at most one of each type.
 
-import { each, joined, keep, mapped } from '../core/lists.js';
+import { each, joined, keep, keysOf, mapped } from '../core/lists.js';
 import { markIn } from '../core/marks.js';
 import { replaceProperty } from '../core/replacing.js';
 import { settings } from '../core/settings.js';
@@ -19,6 +19,7 @@ const MARKED = /^(\v|\/\*\v\f<\*\/);?__er\.handlerBegins\(/;
 /** @typedef {import('../types').Target} Target */
 /** @typedef {import('../types').Method} Method */
 
+/** One for each document: `page.onHandlers`. */
 class OnHandlers {
   /** @param {import('../types').Page} page */
   constructor(page) {
@@ -185,6 +186,45 @@ class OnHandlers {
     handlers.nameHandler(handler, owner, type);
     this.page.capturing.capture(type);
     if (marked !== text) apply(this.natives.setAttribute, element, [`on${type}`, marked]);
+  }
+
+  /**
+   * A script has called what can change or remove a handler attribute. A removal also removes the handler of the property.
+   * @param {Element} element
+   * @param {string} type
+   * @param {string|null} before
+   * @param {string|null} now
+   */
+  changeAttribute(element, type, before, now) {
+    if (before === now) return;
+    const { handlers, page, recording } = this;
+    page.elements.declaredNumber(element);
+    recording.finishReturned();
+    if (now === null) {
+      this.#forget(this.#slotTarget(element, type), type);
+      recording.access('w', handlers.slot(this.#slotTarget(element, type), type));
+    } else this.registerAttribute(element, type, now);
+  }
+
+  /**
+   * @param {Target} owner
+   * @param {string} type
+   */
+  #forget(owner, type) {
+    this.ofAttributes.get(owner)?.delete(type);
+    this.ofProperties.get(owner)?.delete(type);
+  }
+
+  /**
+   * `document.open` has removed all handlers of a target.
+   * @param {Target} owner
+   */
+  forgetAll(owner) {
+    const types = joined(keysOf(this.#attributesOf(owner)), keysOf(this.ofProperties.get(owner) || new Map()));
+    each(types, (type) => {
+      this.#forget(owner, type);
+      this.recording.access('w', this.handlers.slot(owner, type));
+    });
   }
 
   /**

@@ -1,10 +1,11 @@
 // Events that a call or a user act queues for a later task. Each is recorded as a `fire` at a stand-in element (docs/recording.md), which is
-// created in the action that caused the event: so rule 14 puts the cause before the event.
+// created in the action that caused the event: so rule 14 puts the cause before the event. Also `unhandledrejection`, whose cause is who rejected the promise.
 
 import { findItem, keep, takeFirst } from '../core/lists.js';
 import { Map, Set, WeakMap } from '../core/taken.js';
 import { isMedia } from '../core/things.js';
 import { spellName } from '../log/spelling.js';
+import { isBefore } from '../recording/order.js';
 import { MEDIA_IN_ORDER } from './media.js';
 import { FIRST_OF_MOTION, MOTIONS_IN_ORDER } from './motions.js';
 
@@ -28,6 +29,7 @@ const FRAMES_OF_A_CALL = 3;
  * @typedef {Cause & {type: string|null, isIt: (event: any) => boolean}} Expected `isIt` knows the class of its event
  */
 
+/** One for each document: `page.queued`. */
 class Queued {
   /** @param {import('../types').Page} page */
   constructor(page) {
@@ -79,7 +81,7 @@ class Queued {
     if (this.recording.isOver || !moment) return undefined;
     const list = this.waiting.get(target) || [];
     this.waiting.set(target, list);
-    const noted = { type, moment, isIt, before: this.#lastOf(target, type) };
+    const noted = { type, moment, isIt, before: this.#lastOf(target, type, moment) };
     list[list.length] = noted;
     const ofTarget = this.noted.get(target) || new Map();
     this.noted.set(target, ofTarget);
@@ -89,15 +91,16 @@ class Queued {
   }
 
   /**
-   * The last event of a type that was expected at a target, if the running event comes after its cause: of two that are queued one after the other the
+   * The last event of a type that was expected at a target, if its cause comes before another one's: of two that are queued one after the other the
    * second comes after the first.
    * @param {EventTarget} target
    * @param {string|null} type
+   * @param {Moment} moment
    * @returns {Cause|null}
    */
-  #lastOf(target, type) {
+  #lastOf(target, type, { event }) {
     const last = this.noted.get(target)?.get(type);
-    return last?.moment && this.recording.isBeforeRunning(last.moment.event) ? last : null;
+    return last?.moment && isBefore(event, last.moment.event) ? last : null;
   }
 
   /**

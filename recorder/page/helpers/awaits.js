@@ -1,4 +1,4 @@
-// What an `await` keeps until the code goes on: instrumented code stores it in a variable of the page, so it shows nothing.
+// What an `await` of an async function keeps until the code goes on: instrumented code stores it in a variable of the page, so it shows nothing.
 
 import { hideClass } from '../core/hiding.js';
 

@@ -3,7 +3,7 @@
 import { MADE_OF_TEXT } from '../log/log.js';
 
 /** @param {import('../types').Page} page */
-function helpersOfScripts({ addresses, globals, insertedModules, modules, recording, scripts }) {
+function helpersOfScripts({ addresses, globals, insertedModules, messages, modules, recording, scripts }) {
   return {
     /** @type {(element: HTMLScriptElement|null, site: number, functions: [string, number][], taken?: [string, boolean][]) => void} */
     scriptBegins: (element, site, functions, taken) => {
@@ -25,6 +25,8 @@ function helpersOfScripts({ addresses, globals, insertedModules, modules, record
     ap: (promise) => modules.noteImport(promise),
     /** @type {(text: unknown) => unknown} */
     made: (text) => { recording.log.miss(MADE_OF_TEXT); return text; },
+    /** @type {(word: unknown) => unknown} */
+    po: (word) => { recording.poster = messages; return word; },
     /** @type {(script: Element) => void} */
     removeHold: (script) => { recording.steering.removeHold(script); },
   };

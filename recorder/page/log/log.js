@@ -1,4 +1,5 @@
-// The log: lines of the trace, each with the place of the code that caused it, sent to the driver in batches.
+// The log: lines of the trace, each with the place of the code that caused it, sent to the driver in batches. A batch is sent (flushed) when it has enough
+// lines, or after some milliseconds.
 
 import { JSON, Map, Object, String, apply } from '../core/taken.js';
 import { wayOf } from './stack.js';
@@ -146,6 +147,6 @@ class Log {
   }
 }
 
-const MADE_OF_TEXT = 'code that is made of a text (eval, Function, a timer\'s text), without what it reads';
+const MADE_OF_TEXT = 'code that is made of a text (eval, Function, a timer\'s text, an inserted script), without what it reads';
 
 export { Log, MADE_OF_TEXT };

@@ -1,4 +1,4 @@
-// Names as the format writes them.
+// Names as the format writes them. A space, a newline and other characters of an id or a key are escaped (`%20`), and a long name is cut.
 
 import { digitsOf, fits, found, sliceOf } from '../core/strings.js';
 import { Map, Math, String, TextEncoder, Uint8Array, apply } from '../core/taken.js';

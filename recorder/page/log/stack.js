@@ -1,4 +1,4 @@
-// The calls on the stack, and the place of the code that caused a line.
+// The calls on the stack, and the place of the code that caused a line. It is taken from an `Error` (`stack`, `prepareStackTrace`).
 
 import { each, keep } from '../core/lists.js';
 import { settings } from '../core/settings.js';

@@ -1,4 +1,5 @@
-// What an access found or wrote: a short digest of the value, written beside the line. No record of the trace contains it.
+// What an access found or wrote: a short digest of the value, written beside the line. No record of the trace contains it. A hash of a text or a number, and
+// the kind of an object or a function.
 
 import { each } from '../core/lists.js';
 import { codeAt, digitsOf, sliceOf } from '../core/strings.js';

@@ -1,4 +1,5 @@
-// Arrays, maps and sets: what their items, keys and methods touch; and whole objects, as a spread reads them.
+// Arrays, maps and sets: what their items, keys and methods touch; and whole objects, as a spread reads them. `push`, `splice`, `sort`, `length`, `Map.get`,
+// `Set.add`: which keys and items each of these methods reads or writes.
 
 import { Array, Map, Object, Set, apply, hasOwn } from '../core/taken.js';
 import { CLASSES, ITEMS, LEFT_OUT, LIST, MAP, NAMES, OTHER_ITEMS, PLAIN, READ, SET, SINGLE_ITEMS, STORAGE, TREE, WRITE } from './holders.js';
@@ -11,6 +12,7 @@ const CHANGES_ALL = new Set(['pop', 'shift', 'unshift', 'splice', 'sort', 'rever
 const READS_KEY = new Set(['get', 'has']);
 const READS_MAP = new Set(['forEach', 'keys', 'values', 'entries']);
 
+/** One for each recording: `recording.objects.collections`. */
 class Collections {
   /** @param {import('../types').Objects} objects */
   constructor(objects) {

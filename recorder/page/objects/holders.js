@@ -1,4 +1,5 @@
-// What has variables: objects, the scopes of closures, windows, elements; and what is known of each variable.
+// What has variables: objects, the scopes of closures, windows, elements; and what is known of each variable. A WeakMap in kinds.js leads from an object to
+// them, which keeps no object in memory.
 
 import { Map } from '../core/taken.js';
 import { UNKNOWN } from '../log/values.js';

@@ -17,6 +17,7 @@ class Builtin extends Holder {
   }
 }
 
+/** One for each recording: `recording.objects.kinds`. */
 class Kinds {
   /** @param {import('../types').Objects} objects */
   constructor(objects) {

@@ -1,5 +1,6 @@
 // Elements that code makes by `createElement`. What the action that made one does with it is in no race, as with other objects (docs/lost.md): others get
-// the element from this action. But others may also look for it in the tree, and come too early: if another action has found it there, all counts.
+// the element from this action. But others may also look for it in the tree, and come too early: if another action has found it there, all counts. Created
+// elements that are not in the document yet.
 
 import { String, WeakMap, apply, getOwnPropertyDescriptor, hasOwn } from '../core/taken.js';
 
@@ -16,6 +17,7 @@ const STEPS = {
 /** @type {{[owner: string]: number|undefined}} `nodeType`, or 0 for all nodes */
 const TYPES = { Node: 0, Element: 1, Document: 9 };
 
+/** One for each recording: `recording.objects.madeElements`. */
 class MadeElements {
   /** @param {import('../types').Objects} objects */
   constructor(objects) {

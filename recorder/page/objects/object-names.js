@@ -10,6 +10,7 @@ import { IS_OF_TREE, LEFT_OUT, LIST, SCOPE, TREE, WINDOW } from './holders.js';
 const { FIRST_FIELD, FIRST_OBJECT } = settings.numbers;
 const LONGEST_TOLD = 80;
 
+/** One for each recording: `recording.objects.objectNames`. */
 class ObjectNames {
   /** @param {import('../types').Objects} objects */
   constructor(objects) {

@@ -14,6 +14,7 @@ import { Sites } from './sites.js';
 import { Trees } from './trees.js';
 import { Variables } from './variables.js';
 
+/** One for each recording, if the depth is `objects`: `recording.objects`. */
 class Objects {
   /** @param {import('../types').Recording} recording */
   constructor(recording) {

@@ -1,4 +1,5 @@
-// What patterns take of objects: the shape of a pattern is what instrument/insert/shapes.js writes. No getter is called.
+// What patterns take of objects: the shape of a pattern is what instrument/insert/shapes.js writes. No getter is called. Destructuring reads properties and
+// items.
 
 import { JSON, Map, getOwnPropertyDescriptor, isArray } from '../core/taken.js';
 import { isThing } from '../core/things.js';
@@ -10,6 +11,7 @@ import { MOST_SPREAD } from './collections.js';
  * @typedef {(string|number|null|Shape)[]} Shape
  */
 
+/** One for each recording: `recording.objects.patterns`. */
 class Patterns {
   /** @param {import('../types').Objects} objects */
   constructor(objects) {

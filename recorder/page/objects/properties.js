@@ -10,6 +10,7 @@ import { LONGEST_PROTOTYPE_CHAIN, isAccessor } from './kinds.js';
 
 const { keepsAll } = settings;
 
+/** One for each recording: `recording.objects.properties`. */
 class Properties {
   /** @param {import('../types').Objects} objects */
   constructor(objects) {

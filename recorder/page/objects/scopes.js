@@ -1,5 +1,5 @@
 // Variables of closures. Instrumented code makes a scope for each call of a function that has such variables, and passes it to the helpers. A page can get
-// hold of scopes, so they show nothing.
+// hold of scopes, so they show nothing. Captured variables are shared by the functions inside; each call of the outer function has its own.
 
 import { hideClass } from '../core/hiding.js';
 import { Holder, IS_COUNTED, READ, SCOPE } from './holders.js';
@@ -43,6 +43,7 @@ class Scope {
 
 hideClass(Scope);
 
+/** One for each recording: `recording.objects.scopes`. */
 class Scopes {
   /** @param {import('../types').Objects} objects */
   constructor(objects) {

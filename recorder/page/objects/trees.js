@@ -43,6 +43,7 @@ function nameOfData(name) {
   return text;
 }
 
+/** One for each recording: `recording.objects.trees`. */
 class Trees {
   /** @param {import('../types').Objects} objects */
   constructor(objects) {

@@ -1,5 +1,5 @@
 // Accesses of the running action to variables: which of them count, what a write has changed when the action is over, and writes that only
-// move a counter.
+// move a counter. Repeated reads and writes in one action are written once.
 
 import { settings } from '../core/settings.js';
 import { Object, getOwnPropertyDescriptor } from '../core/taken.js';
@@ -14,6 +14,7 @@ const OF_STAGED = 5;
 const AFTER = 4;
 const NOT_STAGED = -1;
 
+/** One for each recording: `recording.objects.variables`. */
 class Variables {
   /** @param {import('../types').Objects} objects */
   constructor(objects) {

@@ -1,5 +1,5 @@
 // Form controls that come into the page disabled. No act of a user reaches one before code enables it: each act is after the code that did so first,
-// and after what showed it (reach.js).
+// and after what showed it (reach.js). `button.disabled = false`.
 
 import { each, findItem, hasItem, joined, mapped } from '../core/lists.js';
 import { fits } from '../core/strings.js';
@@ -20,6 +20,7 @@ const REACHED = 'the code that showed it';
 /** @typedef {import('../document/tree.js').Maker} Maker */
 /** @typedef {import('../events/dispatches.js').EventDispatch} EventDispatch */
 
+/** One for each document: `page.controls`. */
 class Controls {
   /** @param {import('../types').Page} page */
   constructor(page) {

@@ -21,6 +21,7 @@ const ARRANGES = /flex|grid/;
 
 /** @typedef {CSSStyleDeclaration & {[name: string]: any}} Style */
 
+/** A part of `Reach`. */
 class Filled {
   /** @param {import('../types').Page} page */
   constructor(page) {

@@ -7,6 +7,7 @@ import { apply } from '../core/taken.js';
 const IS_INERT = ':is([inert], [inert] *)';
 const MODAL = 'dialog:modal';
 
+/** A part of `Reach`. */
 class Inert {
   /** @param {import('../types').Page} page */
   constructor(page) {

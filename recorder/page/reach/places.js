@@ -28,6 +28,7 @@ const NO_LAYER = [['position', 'static'], ['zIndex', 'auto'], ['opacity', '1'], 
   ['mixBlendMode', 'normal'], ['isolation', 'auto'], ['contain', 'none'], ['containerType', 'normal'], ['contentVisibility', 'visible'], ['willChange', 'auto'],
   ['offsetPath', 'none'], ['viewTransitionName', 'none']];
 
+/** A part of `Reach`. */
 class Places {
   /** @param {import('../types').Page} page */
   constructor(page) {

@@ -37,6 +37,7 @@ const LONGEST_IN_ALL = 1000;
 
 /** @typedef {Animation & {transitionProperty?: string, effect: KeyframeEffect|null}} Transition */
 
+/** One for each document: `page.reach`. */
 class Reach {
   /** @param {import('../types').Page} page */
   constructor(page) {
@@ -174,6 +175,7 @@ class Reach {
   }
 
   /**
+   * Looks whether a hidden element can be reached now; if so, by the code of `moment`, or null if no code ran.
    * @param {Element} element
    * @param {State} state
    * @param {Moment|null} moment

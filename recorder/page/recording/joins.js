@@ -1,9 +1,11 @@
 // Events that come after several others, or after one that no rule knows: what a promise of several promises, or the window's load, waits for, a
 // port that was started after a message was posted, scripts in their order. An empty handler that was registered in each of the others shows the order.
+// `Promise.all`, `load` of the window.
 
 import { each } from '../core/lists.js';
 import { Set } from '../core/taken.js';
 
+/** One for each document: `page.joins`. */
 class Joins {
   /** @param {import('../types').Page} page */
   constructor(page) {

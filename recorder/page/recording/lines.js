@@ -7,6 +7,7 @@ import { placeOnStack } from '../log/stack.js';
 import { Values } from '../log/values.js';
 import { Shared } from './shared.js';
 
+/** A part of `Recording`, which extends it (through open-dispatches.js). */
 class Lines extends Shared {
   /** @param {import('../types').Send} send */
   constructor(send) {

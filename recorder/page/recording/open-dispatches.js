@@ -8,6 +8,7 @@ const MOST_OPEN = 256;
 /** Events in which a script can dispatch another one. */
 const MAY_DISPATCH = new Set(['exec', 'timer', 'tick', 'handler', 'close']);
 
+/** A part of `Recording`, which extends it. */
 class OpenDispatches extends Lines {
   /**
    * @param {import('../types').Natives} natives

@@ -11,6 +11,7 @@ import { Steering } from './steering.js';
 /** The jobs of an action are over when this many turns of the job queue ran nothing that the recorder sees. */
 const TURNS_OF_A_CHECKPOINT = 24;
 
+/** One for a page and its frames: main.js makes it in the top document. */
 class Recording extends OpenDispatches {
   /**
    * @param {import('../types').Natives} natives

@@ -3,6 +3,7 @@
 import { settings } from '../core/settings.js';
 import { Set, WeakMap, WeakSet } from '../core/taken.js';
 
+/** The base of `Recording`. */
 class Shared {
   constructor() {
     /**
@@ -39,6 +40,11 @@ class Shared {
      */
     this.posted = new WeakMap();
     /**
+     * The part of the page whose code calls `postMessage` now, if the call has a mark.
+     * @type {import('../types').Messages|null}
+     */
+    this.poster = null;
+    /**
      * The messages that have come, by their events.
      * @type {WeakMap<Event, import('../types').PostedMessage>}
      */
@@ -57,6 +63,13 @@ class Shared {
     this.channels = [];
     /** Whether a worker or another tab might post to a broadcast channel. */
     this.hasOtherSenders = settings.isDriven;
+  }
+
+  /** Whose code calls `postMessage` now, if that is known: no later call has this poster. */
+  takePoster() {
+    const { poster } = this;
+    this.poster = null;
+    return poster;
   }
 }
 

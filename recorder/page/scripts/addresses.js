@@ -9,6 +9,7 @@ import { isElement } from '../core/things.js';
 
 const IS_MARKED = /^(\/\*)?\v/;
 
+/** One for each document: `page.addresses`. */
 class Addresses {
   /** @param {import('../types').Page} page */
   constructor(page) {

@@ -12,6 +12,7 @@ const MOST_LOOKED_AT = 100;
  * @typedef {{maker: import('../types').TraceEvent, previous: Inserted|null, before: Inserted|null, ends: Moment[]}} Inserted
  */
 
+/** One for each document: `page.inOrder`. */
 class InOrder {
   /** @param {import('../types').Page} page */
   constructor(page) {

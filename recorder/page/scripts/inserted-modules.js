@@ -6,6 +6,7 @@ import { isElement } from '../core/things.js';
 
 const TEXT = 3;
 
+/** One for each document: `page.insertedModules`. */
 class InsertedModules {
   /** @param {import('../types').Page} page */
   constructor(page) {

@@ -1,8 +1,14 @@
 // Scripts that are declared before a script inserts them, as by a handler that was set, or because they were data: they start at the insertion. So do the
-// loads of style sheets.
+// loads of style sheets. These are injected scripts (`appendChild`).
 
-import { WeakSet, apply } from '../core/taken.js';
+import { fits } from '../core/strings.js';
+import { Set, WeakSet, apply } from '../core/taken.js';
+import { MADE_OF_TEXT } from '../log/log.js';
 
+/** Elements that load what they have only once they are in the document, and whose kind is in an attribute. */
+const LOADS_INSERTED = /^(link|object|embed|input)$/;
+
+/** One for each document: `page.insertions`. */
 class Insertions {
   /** @param {import('../types').Page} page */
   constructor(page) {
@@ -13,6 +19,21 @@ class Insertions {
      * @type {WeakSet<Element>}
      */
     this.started = new WeakSet();
+    /**
+     * Those of them that have not run.
+     * @type {Set<Element>}
+     */
+    this.due = new Set();
+    /**
+     * The scripts that run when they are inserted: a call of the page has made them, and no text that it has set (`innerHTML`).
+     * @type {WeakSet<Element>}
+     */
+    this.made = new WeakSet();
+  }
+
+  /** A call of the page has made an element, which can be a script. */
+  noteMade(/** @type {Element} */ element) {
+    if (element.localName === 'script') this.made.add(element);
   }
 
   /**
@@ -20,12 +41,15 @@ class Insertions {
    * @param {Element} element
    */
   starts(element) {
-    const { kinds, tree, elements } = this.page;
+    const { calls, kinds, tree, elements } = this.page;
     if (this.started.has(element) || tree.staticScripts.has(elements.number(element))) return false;
     const isEmpty = !kinds.hasSource(element) && !element.textContent;
     if (isEmpty || !kinds.scriptType(element)) return false;
     this.started.add(element);
-    return kinds.ofInsertedScript(element) === 'async';
+    const runsLater = kinds.ofInsertedScript(element) === 'async';
+    if (runsLater) this.due.add(element);
+    else if (this.made.has(element) || calls.isWriting()) this.recording.log.miss(MADE_OF_TEXT);
+    return runsLater;
   }
 
   /**
@@ -33,7 +57,7 @@ class Insertions {
    * @param {Element} element
    */
   noteDeclared(element) {
-    this.#noteSheet(element);
+    this.#noteLoading(element);
     if (element.localName !== 'script' || !this.starts(element)) return;
     const { elements, inOrder, sources } = this.page;
     const isMadeHere = elements.makers.get(element) === this.recording.running;
@@ -41,13 +65,17 @@ class Insertions {
   }
 
   /**
-   * A style sheet's link that another event has declared is inserted: it loads only now.
+   * What loads only now that it is inserted: a style sheet's link that another event has declared, and what was declared before it had what it loads by,
+   * as by a handler.
    * @param {Element} element
    */
-  #noteSheet(element) {
+  #noteLoading(element) {
     const { elements, kinds, sources } = this.page;
-    if (element.localName !== 'link' || elements.makers.get(element) === this.recording.running || !this.recording.isRunning()) return;
-    if (kinds.of(element, false) === 'image') sources.standIn(element, 'image', 'it was inserted');
+    if (!fits(LOADS_INSERTED, element.localName) || !this.recording.isRunning()) return;
+    const isMadeHere = elements.makers.get(element) === this.recording.running;
+    if (isMadeHere ? elements.kinds.get(elements.number(element)) !== 'plain' : element.localName !== 'link') return;
+    const kind = kinds.of(element, false);
+    if (kind === 'image' || kind === 'frame') sources.standIn(element, kind, 'it was inserted');
   }
 
   /**
@@ -56,7 +84,9 @@ class Insertions {
    */
   noteSource(element) {
     const { kinds, natives } = this.page;
-    if (element.localName === 'script' && apply(natives.isConnected, element, []) && kinds.scriptType(element)) this.started.add(element);
+    if (element.localName !== 'script' || !apply(natives.isConnected, element, []) || !kinds.scriptType(element)) return;
+    if (!this.started.has(element)) this.due.add(element);
+    this.started.add(element);
   }
 }
 

@@ -1,4 +1,4 @@
-// Runs of modules, and `import()`.
+// Runs of modules, and `import()`. ES modules (`<script type=module>`), also with a top-level `await`.
 
 import { each, findItem, hasItem, joined, takeFirst } from '../core/lists.js';
 import { fits, indexIn } from '../core/strings.js';
@@ -13,6 +13,7 @@ import { fileOnStack } from '../log/stack.js';
  * @typedef {{moments: Moment[], isByOne: boolean, asked: {interval: number, event: TraceEvent}[]}} Import
  */
 
+/** One for each document: `page.modules`. */
 class Modules {
   /** @param {import('../types').Page} page */
   constructor(page) {
@@ -76,6 +77,7 @@ class Modules {
     if (recording.isOver) return;
     const running = this.#runNow();
     if (!running.element) this.#tellElement(script, running);
+    if (running.moment?.event === running.event) this.page.loading.noteAwaitedRun(running.element, running.moment);
     this.page.natives.queueMicrotask(() => { if (recording.moduleRun === running) this.close(); });
   }
 
@@ -94,7 +96,10 @@ class Modules {
     return ends;
   }
 
-  /** @param {number} [site] */
+  /**
+   * Begins the run of a module of which it is not known yet which element or `import()` asked for it.
+   * @param {number} [site]
+   */
   #beginRun(site) {
     const { recording } = this;
     recording.startTask();
@@ -109,7 +114,7 @@ class Modules {
     return run;
   }
 
-  /** A module waits at its top: its code so far has returned. */
+  /** A module waits at its top (`await`): its code so far has returned. Called by helpers/awaits.js. */
   waits() {
     const { recording } = this;
     const run = recording.moduleRun;
@@ -132,6 +137,7 @@ class Modules {
   }
 
   /**
+   * The run turns out to be that of a script element: all that a script's run does is done for it.
    * @param {HTMLScriptElement} element
    * @param {ModuleRun} run
    */

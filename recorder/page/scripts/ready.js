@@ -10,6 +10,7 @@ const LIBRARY = 'jQuery';
 /** The names by which code has it. */
 const NAMES_OF_LIBRARY = new Set([LIBRARY, '$']);
 
+/** One for each document: `page.ready`. */
 class Ready {
   /** @param {import('../types').Page} page */
   constructor(page) {

@@ -1,8 +1,8 @@
 // Runs of scripts: what instrumented code calls at its start and end, and scripts that fail.
 
-import { each, findItem } from '../core/lists.js';
+import { each, positionOf, valuesOf } from '../core/lists.js';
 import { withoutMarks } from '../core/marks.js';
-import { fits, withoutFragment } from '../core/strings.js';
+import { fits } from '../core/strings.js';
 import { Set, apply } from '../core/taken.js';
 import { fileOnStack } from '../log/stack.js';
 
@@ -14,6 +14,7 @@ const TEXT = 3;
  * @typedef {[name: string, place: number]} FunctionOfScript
  */
 
+/** One for each document: `page.scripts`. */
 class Scripts {
   /** @param {import('../types').Page} page */
   constructor(page) {
@@ -54,7 +55,7 @@ class Scripts {
     }
     if (script && !element) this.showOwnText(script);
     recording.startTask();
-    this.#writeRun(script, script ? this.runnable(script) : page.tree.addHiddenScript(), site);
+    this.writeRun(script, script ? this.runnable(script) : page.tree.addHiddenScript(), site);
     recording.enter('script', functions);
     this.#declareFunctions(functions);
   }
@@ -93,11 +94,12 @@ class Scripts {
   }
 
   /**
+   * Writes that the script of an element runs, after what its kind comes after.
    * @param {Element|null} element
    * @param {number} number
    * @param {number} [site]
    */
-  #writeRun(element, number, site) {
+  writeRun(element, number, site) {
     const { recording, page } = this;
     const kind = page.elements.kinds.get(number);
     this.hasRun.add(number);
@@ -118,6 +120,7 @@ class Scripts {
   noteRun(element, number) {
     const { recording, page } = this;
     if (page.tree.staticScripts.has(number) || page.elements.awaited.has(number)) recording.running.awaits = page;
+    if (element) page.insertions.due.delete(element);
     this.last = { element, number, event: recording.running };
   }
 
@@ -138,27 +141,35 @@ class Scripts {
       this.page.modules.ends(fileOnStack());
       return;
     }
-    if (recording.contexts.length === 1 && recording.running === this.last.event) this.#noteEnd(this.last.number);
+    this.noteEnd();
     recording.leave();
+  }
+
+  /** The code that runs is over: if it is that of a script element, what waits for its run comes after this. Also called if it ends in an error. */
+  noteEnd() {
+    const { recording } = this;
+    if (recording.contexts.length === 1 && recording.running === this.last.event) this.#noteEndOf(this.last.number);
   }
 
   /**
    * The run of a script element is over, also of one that failed.
    * @param {number} number
    */
-  #noteEnd(number) {
+  #noteEndOf(number) {
     const { elements, inOrder, loading } = this.page;
     inOrder.ends(number);
     if (fits(/^(inline|sync)$/, elements.kinds.get(number) || '')) loading.noteRunOf(number);
   }
 
   /**
-   * A deferred script runs: the parser has nothing more to do for it.
+   * A deferred script runs: the parser has nothing more to do for it, and for those before it, which have failed.
    * @param {number} number
    */
   noteDeferred(number) {
     const { tree } = this.page;
-    tree.pendingDeferred.delete(number);
+    const pending = valuesOf(tree.pendingDeferred);
+    const position = positionOf(pending, number);
+    each(pending, (one, k) => { if (k <= position) tree.pendingDeferred.delete(one); });
     tree.hasRunDeferred = true;
   }
 
@@ -176,7 +187,7 @@ class Scripts {
     const source = sources.loads.get(element);
     if (source && !this.hasRun.has(source.number)) return source.number;
     const isScript = fits(/^(inline|sync|defer|async)$/, kind);
-    const why = isScript && !this.hasRun.has(number) ? this.#whyTooLate(number, kind) : 'it had run, or was no script when it was made';
+    const why = isScript && !this.hasRun.has(number) ? this.whyTooLate(number, kind) : 'it had run, or was no script when it was made';
     if (!why) return number;
     const standIn = recording.next('element');
     elements.kinds.set(standIn, 'async');
@@ -191,7 +202,7 @@ class Scripts {
    * @param {number} number
    * @param {string} kind
    */
-  #whyTooLate(number, kind) {
+  whyTooLate(number, kind) {
     const { tree, loading } = this.page;
     if (!tree.staticScripts.has(number)) return '';
     if (loading.hasBegunLoad) return 'it ran after load';
@@ -224,38 +235,10 @@ class Scripts {
     const number = elements.number(element);
     const kind = elements.kinds.get(number) || '';
     const isDue = tree.staticScripts.has(number) && kind !== 'async' && !this.hasRun.has(number);
-    if (!isDue || this.#whyTooLate(number, kind)) return false;
-    this.#writeRun(element, number);
+    if (!isDue || this.whyTooLate(number, kind)) return false;
+    this.writeRun(element, number);
+    this.#noteEndOf(number);
     return true;
-  }
-
-  /**
-   * The same for a script that the browser could not parse and that nothing waits for: its load event comes after the error.
-   * @param {Element} element
-   */
-  #runEmptyLate(element) {
-    const { elements, recording, sources } = this.page;
-    const number = sources.loads.get(element)?.number || elements.number(element);
-    const isAsync = number !== elements.number(element) || elements.kinds.get(number) === 'async';
-    if (!isAsync || !recording.declared.has(elements.number(element)) || this.hasRun.has(number) || this.#whyTooLate(number, 'async')) return false;
-    this.#writeRun(element, number);
-    return true;
-  }
-
-  /**
-   * An error of the window because a script is no JavaScript: it belongs to the script's empty run.
-   * @param {ErrorEvent} event
-   */
-  runBroken({ filename, message }) {
-    if (!fits(/SyntaxError/, message)) return false;
-    this.recording.startTask();
-    const { document, elements, natives, tree } = this.page;
-    const last = tree.lastParsedElement;
-    const isInline = last && elements.kinds.get(tree.lastParsed) === 'inline' && filename === withoutFragment(document.URL);
-    /** @type {ArrayLike<Element>} */
-    const scripts = isInline ? [last] : apply(natives.querySelectorAll, document.documentElement, ['script[src]']);
-    const script = findItem(scripts, (one) => (isInline || /** @type {HTMLScriptElement} */ (one).src === filename) && !this.hasRun.has(elements.number(one)));
-    return !!script && (this.runEmpty(script) || this.#runEmptyLate(script));
   }
 }
 

@@ -1,4 +1,5 @@
-// Functions that the browser is given and calls later, in tasks of their own that nothing else asks for.
+// Functions that the browser is given and calls later, in tasks of their own that nothing else asks for. `scheduler.postTask`, `navigator.locks`, geolocation,
+// `canvas.toBlob`, view transitions, drag and drop.
 
 import { each, joined } from '../core/lists.js';
 import { replaceGetter, replaceMethod } from '../core/replacing.js';
@@ -23,23 +24,27 @@ const CALLBACKS = [
 
 /** Those that return a promise which is settled after the callback. */
 const PROMISES = new Set(['postTask', 'request']);
-/** The promises of a view transition. */
+const TRANSITION = 'startViewTransition';
+/** The promises of a view transition, in the order in which the browser settles them. */
 const OF_TRANSITION = ['updateCallbackDone', 'ready', 'finished'];
 
 /** @typedef {import('../types').PageWindow} PageWindow */
+/** @typedef {import('../types').TraceEvent} TraceEvent */
+/** @typedef {import('./promises.js').Several} Several */
 /**
- * A call that the browser calls back: its interval, its event, and where the callback has run.
- * @typedef {{number: number, event: import('../types').TraceEvent|null, ends: import('./promises.js').Several}} Asked
+ * A call that the browser calls back: its name, its interval, its event, and for each promise of it where the callback has run.
+ * @typedef {{name: string, number: number, event: TraceEvent|null, ends: Several[]}} Asked
  */
 
+/** One for each document: `page.callbacks`. */
 class Callbacks {
   /** @param {import('../types').Page} page */
   constructor(page) {
     this.page = page;
     this.recording = page.recording;
     /**
-     * By view transition: where its callback has run.
-     * @type {WeakMap<object, import('./promises.js').Several>}
+     * By view transition: what its promises come after.
+     * @type {WeakMap<object, Several[]>}
      */
     this.transitions = new WeakMap();
   }
@@ -49,7 +54,7 @@ class Callbacks {
     each(CALLBACKS, ({ 0: owner, 1: name, 2: indices, 3: property }) => {
       if (window[owner]) this.#replaceCall(window[owner].prototype, name, indices, property);
     });
-    if (window.ViewTransition) each(OF_TRANSITION, (name) => this.#replacePromise(window.ViewTransition.prototype, name));
+    if (window.ViewTransition) each(OF_TRANSITION, (name, k) => this.#replacePromise(window.ViewTransition.prototype, name, k));
   }
 
   /**
@@ -65,8 +70,8 @@ class Callbacks {
       const words = joined(arguments);
       const asked = callbacks.recording.isOver ? null : callbacks.#wrapWords(name, words, indices, property);
       const result = apply(native, this, words);
-      if (asked && name === 'startViewTransition') callbacks.transitions.set(result, asked.ends);
-      if (asked && PROMISES.has(name)) callbacks.page.promises.several.set(result, asked.ends);
+      if (asked && name === TRANSITION) callbacks.transitions.set(result, asked.ends);
+      if (asked && PROMISES.has(name)) callbacks.page.promises.several.set(result, asked.ends[0]);
       return result;
     });
   }
@@ -75,13 +80,14 @@ class Callbacks {
    * What waits for a view transition comes after its callback, and after what its starter does when an earlier promise of it is settled.
    * @param {any} owner its members differ by interface
    * @param {string} name
+   * @param {number} position of the promise among those of a transition
    */
-  #replacePromise(owner, name) {
+  #replacePromise(owner, name, position) {
     const callbacks = this;
     replaceGetter(owner, name, (native) => function get() {
       const promise = apply(native, this, []);
       const ends = callbacks.transitions.get(this);
-      if (ends) callbacks.page.promises.several.set(promise, ends);
+      if (ends) callbacks.page.promises.several.set(promise, ends[position]);
       return promise;
     });
   }
@@ -121,7 +127,7 @@ class Callbacks {
     recording.noteAsking(`every ${number} 0`);
     recording.log.name('interval', number, { why: name, function: nameOfFunction(callback) });
     const event = recording.isRunning() ? recording.running : null;
-    return { number, event, ends: { moments: [], isByOne: false, why: name, asker: name === 'startViewTransition' ? event : null } };
+    return { name, number, event, ends: name === TRANSITION ? endsOfTransition(event) : [{ moments: [], isByOne: false, why: name }] };
   }
 
   /**
@@ -130,21 +136,37 @@ class Callbacks {
    * @param {Function} callback
    * @returns {import('../types').Method}
    */
-  #wrap({ number, event, ends }, callback) {
-    const { recording } = this;
+  #wrap({ name, number, event, ends }, callback) {
+    const { recording, page: { natives, promises } } = this;
+    const noteEnd = () => each(ends, ({ moments }) => { moments[moments.length] = recording.moment(); });
     return function called() {
       if (recording.isOver || recording.contexts.length) return apply(callback, this, arguments);
       recording.startTask();
       recording.begin(`tick ${number}`, 'tick', undefined, [event]);
       recording.enter('callback');
       try {
-        return apply(callback, this, arguments);
+        const result = apply(callback, this, arguments);
+        // a view transition waits until the promise of its callback is settled
+        if (name === TRANSITION && promises.isPlain(result)) apply(natives.then, result, [noteEnd, noteEnd]);
+        return result;
       } finally {
-        ends.moments[0] = recording.moment();
+        noteEnd();
         recording.leave();
       }
     };
   }
+}
+
+/**
+ * What each promise of a view transition comes after. A rejection of `ready` can come before the callback.
+ * @param {TraceEvent|null} asker the event that starts the transition
+ * @returns {Several[]}
+ */
+function endsOfTransition(asker) {
+  const endsBefore = (/** @type {Several[]} */ later, isIfFulfilled = false) => ({ moments: [], isByOne: false, why: TRANSITION, asker, ofAsker: [], later, isIfFulfilled });
+  const finished = endsBefore([]);
+  const ready = endsBefore([finished], true);
+  return [endsBefore([ready, finished]), ready, finished];
 }
 
 export { Callbacks };

@@ -22,6 +22,7 @@ const LENIENCE = 10;
  * @typedef {{from: object, posts: (() => void)[]}} Queue messages that wait
  */
 
+/** One for each document: `page.chaos`. */
 class Chaos {
   /** @param {import('../types').Page} page */
   constructor(page) {

@@ -4,6 +4,7 @@ const OTHER_CLOCK = 'clocks that a program put in the place of the browser\'s, w
 /** A library that only looks at timers, as zone.js, leaves the date. */
 const NAMES = /** @type {const} */ (['setTimeout', 'Date']);
 
+/** One for each document: `page.clock`. */
 class Clock {
   /** @param {import('../types').Page} page */
   constructor(page) {
@@ -13,6 +14,7 @@ class Clock {
     this.isOther = false;
   }
 
+  /** What `look` compares later: the functions of the browser, or of the recorder in their place. */
   start() {
     this.own = [this.#current(NAMES[0]), this.#current(NAMES[1])];
   }

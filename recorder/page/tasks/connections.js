@@ -1,9 +1,10 @@
-// What is opened or asked and answers with events, as a request does: EventSource, WebSocket, FileReader and IndexedDB.
+// What is opened or asked and answers with events, as a request does: EventSource, WebSocket, FileReader and IndexedDB. Incoming messages of a socket or a
+// stream, and `success` and `error` of a database request, come after the call.
 
 import { each, keep } from '../core/lists.js';
 import { replaceConstructor, replaceMethod } from '../core/replacing.js';
 import { sliceOf } from '../core/strings.js';
-import { String, WeakMap, apply } from '../core/taken.js';
+import { Map, String, WeakMap, apply } from '../core/taken.js';
 
 const CONNECTIONS = ['EventSource', 'WebSocket'];
 /** Calls whose events come at the object itself. */
@@ -19,6 +20,7 @@ const ASKERS = [
   ['IDBCursor', ['delete', 'update']],
 ];
 
+/** One for each document: `page.connections`. */
 class Connections {
   /** @param {import('../types').Page} page */
   constructor(page) {
@@ -29,6 +31,11 @@ class Connections {
      * @type {WeakMap<object, {last: import('../types').Moment|null}>}
      */
     this.queues = new WeakMap();
+    /**
+     * By the name of a database: the last request to open or delete it.
+     * @type {Map<string, import('./requests.js').Request>}
+     */
+    this.opening = new Map();
   }
 
   start() {
@@ -71,13 +78,30 @@ class Connections {
    */
   order(dispatch, request) {
     const queue = this.#queueOf(dispatch.target, request);
-    if (!queue) return;
+    if (!queue && !request.opening) return;
     request.queue = queue;
     const { target } = dispatch;
     if (dispatch.event.type === 'upgradeneeded') this.page.dispatches.requests.set(/** @type {any} */ (target).transaction, request);
-    dispatch.moments = [queue.last];
+    dispatch.moments = [queue?.last, request.former?.last];
     dispatch.why = 'the request before';
-    dispatch.whenClosed = () => { queue.last = this.recording.lastMoment(); };
+    dispatch.whenClosed = () => {
+      if (queue) queue.last = this.recording.lastMoment();
+      if (request.opening) request.opening.last = this.recording.lastMoment();
+    };
+  }
+
+  /**
+   * A database is opened or deleted: the browser does this after what was asked for before with its name, if that is before it in any run of the page.
+   * @param {unknown} name
+   * @param {unknown} target where the events come
+   */
+  #noteOpening(name, target) {
+    const request = this.page.dispatches.requests.get(/** @type {EventTarget} */ (target));
+    if (this.recording.isOver || typeof name !== 'string' || !request) return;
+    const former = this.opening.get(name);
+    request.opening = { last: null };
+    if (former?.sender && this.recording.isRunning() && this.recording.isBeforeRunning(former.sender)) request.former = former.opening;
+    this.opening.set(name, request);
   }
 
   /**
@@ -105,6 +129,7 @@ class Connections {
         const result = apply(native, this, arguments);
         const of = result === undefined ? '' : name === 'transaction' ? 'transaction' : 'request';
         connections.#ask(answering(this, result), { method: `${owner}.${name}`, of: connections.#transactionOf(result) }, of);
+        if (owner === 'IDBFactory') connections.#noteOpening(arguments[0], result);
         return result;
       }));
     });

@@ -1,4 +1,5 @@
-// Jobs: the reactions of promises, what `queueMicrotask` gets, and the code after an `await`. A job belongs to the action after which it runs.
+// Jobs: the reactions of promises, what `queueMicrotask` gets, and the code after an `await`. A job belongs to the action after which it runs. An async
+// function goes on (resumes) in a microtask.
 
 import { joined, keep } from '../core/lists.js';
 import { apply } from '../core/taken.js';
@@ -10,10 +11,11 @@ import { TURNS_OF_A_CHECKPOINT } from '../recording/recording.js';
 /** @typedef {import('../types').Dispatch} Dispatch */
 /**
  * Who asks for a job, in which task, and at which promise `v`: what an `await` stores until the code goes on. The job comes after `others` too, for the
- * reason `why`, and settles the promise `makes`.
- * @typedef {{v: unknown, site?: number, moment: Moment|null, task?: number, others?: (Moment|null)[], why?: string, makes?: object}} Asked
+ * reason `why`, and settles the promise `makes`. It might be for a rejection alone.
+ * @typedef {{v: unknown, site?: number, moment: Moment|null, task?: number, others?: (Moment|null)[], why?: string, makes?: object, isRejected?: boolean}} Asked
  */
 
+/** One for each document: `page.jobs`. */
 class Jobs {
   /** @param {import('../types').Page} page */
   constructor(page) {
@@ -44,8 +46,8 @@ class Jobs {
    * The actions that a job comes after, beside the one that asked for it and the one in which it runs.
    * @param {Asked} asked
    */
-  #othersOf({ v: promise, others }) {
-    return joined(this.page.promises.momentsOf(promise), others);
+  #othersOf(asked) {
+    return joined(this.page.promises.momentsOf(asked.v, asked), asked.others);
   }
 
   /**

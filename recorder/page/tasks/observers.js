@@ -1,8 +1,10 @@
-// Observers: a mutation observer's callback is a job, those of the others are tasks. Each comes after the call of `observe()`.
+// Observers: a mutation observer's callback is a job, those of the others are tasks. Each comes after the call of `observe()`. MutationObserver,
+// IntersectionObserver, ResizeObserver, PerformanceObserver; FinalizationRegistry.
 
 import { each, findItem, joined, keep } from '../core/lists.js';
 import { putConstructor, replaceMethod } from '../core/replacing.js';
-import { Reflect, Set, WeakMap, apply } from '../core/taken.js';
+import { Reflect, Set, WeakMap, WeakSet, apply } from '../core/taken.js';
+import { isElement } from '../core/things.js';
 
 const OBSERVERS = ['MutationObserver', 'IntersectionObserver', 'ResizeObserver', 'PerformanceObserver', 'ReportingObserver'];
 /** Those whose entries are not of one thing for which `observe()` was called. */
@@ -15,6 +17,7 @@ const OF_ALL = new Set(['PerformanceObserver', 'ReportingObserver']);
  * @typedef {{name: string, handler: number, asked: import('./jobs.js').Asked, type: string, told: {target: any, moment: Moment}[], hold: import('../types').Held|undefined, last?: Moment}} About
  */
 
+/** One for each document: `page.observers`. */
 class Observers {
   /** @param {import('../types').Page} page */
   constructor(page) {
@@ -28,6 +31,11 @@ class Observers {
      * @type {Moment[]}
      */
     this.observed = [];
+    /**
+     * The nodes in slots for which a `slotchange` has come.
+     * @type {WeakSet<Node>}
+     */
+    this.assigned = new WeakSet();
   }
 
   /** The action that was begun last ends something that comes before the next script for which the parser waits. */
@@ -136,6 +144,37 @@ class Observers {
       about.last = recording.lastMoment();
       this.noteBeforeScript();
     }
+  }
+
+  /**
+   * A `slotchange` while no code runs: it comes with the calls of mutation observers. It is after the step of the first node that the slot has got, if that is
+   * an element. It is before the next script for which the parser waits, unless the shadow tree could also come later.
+   * @param {import('../types').NewDispatch} dispatch
+   */
+  orderSlotChange(dispatch) {
+    const { recording, page: { elements, number, tree } } = this;
+    const slot = /** @type {HTMLSlotElement} */ (dispatch.target);
+    if (!dispatch.event?.isTrusted || slot.localName !== 'slot') return;
+    const { 0: first } = this.#takeAssigned(slot);
+    if (dispatch.isInline || recording.act || !tree.isParsing()) return;
+    const step = first && tree.steps.get(/** @type {Element} */ (first));
+    if (step) {
+      dispatch.moments = [step];
+      dispatch.why = 'the step of its first node';
+    }
+    const maker = elements.makers.get(slot);
+    const isOfParser = first && (step || !isElement(first));
+    if (isOfParser && (maker?.blocks === this.page || maker?.parsed === number)) dispatch.whenClosed = () => this.noteBeforeScript();
+  }
+
+  /**
+   * The nodes that a slot has got since the last call.
+   * @param {HTMLSlotElement} slot
+   */
+  #takeAssigned(slot) {
+    const assigned = keep(apply(this.page.natives.assignedNodes, slot, []), (node) => !this.assigned.has(node));
+    each(assigned, (node) => this.assigned.add(node));
+    return assigned;
   }
 
   /**

@@ -1,4 +1,5 @@
-// Calls that ask for a job: `then`, `queueMicrotask`, and promises of several promises, whose reactions come after what has settled each.
+// Calls that ask for a job: `then`, `queueMicrotask`, and promises of several promises, whose reactions come after what has settled each. `Promise.all`,
+// `allSettled`, `any`.
 
 import { each, findItem, joined } from '../core/lists.js';
 import { replaceMethod } from '../core/replacing.js';
@@ -14,14 +15,17 @@ const MOST_LINKS = 20;
 
 /** @typedef {import('../types').Moment} Moment */
 /**
- * What has settled the promises of a promise of several, or what else a promise comes after. One alone has decided it: then the others say nothing.
- * Of promises that are settled one after the other, `asker` is the event that got them all.
- * @typedef {{moments: (Moment|null)[], isByOne: boolean, name?: string, why?: string, asker?: import('../types').TraceEvent|null}} Several
+ * What has settled the promises of a promise of several, or what else a promise comes after: also if it is rejected, unless `isIfFulfilled`. One alone
+ * has decided it: then the others say nothing. Of promises that are settled one after the other, `asker` is the event that got them all, `ofAsker` has the
+ * reactions that it asked for at this promise, and `later` are those that are settled later.
+ * @typedef {{moments: (Moment|null)[], isByOne: boolean, name?: string, why?: string, asker?: import('../types').TraceEvent|null, ofAsker?: Moment[],
+ *   later?: Several[], isIfFulfilled?: boolean}} Several
  */
 
 /** @param {unknown} given */
 const isNativeFunction = (given) => typeof given === 'function' && sliceOf(apply(functionText, given, []), -16) === ' [native code] }';
 
+/** One for each document: `page.promises`. */
 class Promises {
   /** @param {import('../types').Page} page */
   constructor(page) {
@@ -68,8 +72,10 @@ class Promises {
         return apply(native, this, [promises.#watch(promises.making, fulfilled, true, before), promises.#watch(promises.making, rejected, false, before)]);
       }
       const asked = jobs.ask(this);
-      const made = apply(native, this, [jobs.wrap(fulfilled, asked), jobs.wrap(rejected, asked)]);
+      const ifRejected = typeof rejected === 'function' ? { ...asked, isRejected: true } : asked;
+      const made = apply(native, this, [jobs.wrap(fulfilled, asked), jobs.wrap(rejected, ifRejected)]);
       asked.makes = made;
+      ifRejected.makes = made;
       return made;
     });
   }
@@ -142,12 +148,13 @@ class Promises {
   /**
    * What the reactions of a promise come after, beside the one that settled it.
    * @param {unknown} promise
+   * @param {import('./jobs.js').Asked} [asked] who has asked for the reaction
    * @returns {(Moment|null)[]}
    */
-  momentsOf(promise) {
+  momentsOf(promise, asked) {
     const several = this.#severalOf(promise);
     const settled = this.#settledIn(promise);
-    return joined(several && !several.isByOne ? several.moments : [], settled ? [settled] : []);
+    return joined(several ? momentsFor(several, asked) : [], settled ? [settled] : []);
   }
 
   /**
@@ -197,7 +204,7 @@ class Promises {
   noteMade({ v: promise, moment, makes: made }, result) {
     const { recording } = this;
     const several = this.#severalOf(promise);
-    if (several && several.asker && several.asker === moment?.event) several.moments[several.moments.length] = recording.lastMoment();
+    if (several && several.asker && several.asker === moment?.event) noteOfAsker(several, recording.lastMoment());
     if (!made || recording.isOver || !recording.isCheckpoint || recording.contexts.length) return;
     if (this.#isPromise(result)) this.settled.set(made, { by: result });
     else if (!isThing(result) && recording.mayDispatch()) this.settled.set(made, recording.point(this.page.number));
@@ -227,6 +234,27 @@ class Promises {
   #severalOf(promise) {
     return typeof promise === 'object' && promise !== null ? this.several.get(promise) : undefined;
   }
+}
+
+/**
+ * What a reaction comes after, by what is known of its promise.
+ * @param {Several} several
+ * @param {import('./jobs.js').Asked|undefined} asked
+ * @returns {(Moment|null)[]}
+ */
+function momentsFor({ moments, isByOne, asker, ofAsker, isIfFulfilled }, asked) {
+  const known = isByOne || (isIfFulfilled && asked?.isRejected) ? [] : moments;
+  return asker && asker === asked?.moment?.event ? joined(known, ofAsker) : known;
+}
+
+/**
+ * A reaction has run that the event asked for which got a promise and those that are settled after it.
+ * @param {Several} several
+ * @param {Moment} end
+ */
+function noteOfAsker({ ofAsker, later }, end) {
+  if (ofAsker) ofAsker[ofAsker.length] = end;
+  each(later || [], ({ moments }) => { moments[moments.length] = end; });
 }
 
 export { Promises };

@@ -1,4 +1,5 @@
-// XMLHttpRequest (Ajax) and fetch: requests, their replies, and the promise of a fetch, also of one that a signal aborts.
+// XMLHttpRequest (Ajax) and fetch: requests, their replies, and the promise of a fetch, also of one that a signal aborts. When the promise of a `fetch` is
+// resolved or rejected, and who reads the body (`json()`, `text()`); `readystatechange`, `load` of an XHR.
 
 import { each } from '../core/lists.js';
 import { replaceMethod } from '../core/replacing.js';
@@ -11,10 +12,13 @@ const BODY_CALLS = ['json', 'text', 'arrayBuffer', 'blob', 'formData', 'bytes'];
 /** @typedef {import('../types').Facts} Facts */
 /** @typedef {import('../types').TraceEvent} TraceEvent */
 /**
- * A request that was sent: by which event, the last reply, and what it is of a database, with the end of the last reply in its transaction.
- * @typedef {{number: number, sender: TraceEvent|null, lastReply?: TraceEvent, database?: 'transaction'|'request', queue?: {last: import('../types').Moment|null}}} Request
+ * A request that was sent: by which event, the last reply, and what it is of a database, with the end of the last reply in its transaction. If it opens or
+ * deletes a database: the end of its last reply, and that of the request before it with the same name.
+ * @typedef {{number: number, sender: TraceEvent|null, lastReply?: TraceEvent, database?: 'transaction'|'request', queue?: {last: import('../types').Moment|null},
+ *   opening?: {last: import('../types').Moment|null}, former?: {last: import('../types').Moment|null}}} Request
  */
 
+/** One for each document: `page.requests`. */
 class Requests {
   /** @param {import('../types').Page} page */
   constructor(page) {

@@ -1,4 +1,5 @@
-// Timeouts, intervals, animation frames and idle callbacks.
+// Timeouts, intervals, animation frames and idle callbacks. `setTimeout`, `setInterval`, `requestAnimationFrame` and `requestIdleCallback` are replaced
+// (hooked), and their callbacks wrapped.
 
 import { each, joined } from '../core/lists.js';
 import { replaceMethod } from '../core/replacing.js';
@@ -20,6 +21,7 @@ const LEAST_OF_NESTED = 4;
  * @typedef {{asker: TraceEvent, before: InQueue|null, ends: (Moment|null)[], why: string}} InQueue
  */
 
+/** One for each document: `page.timers`. */
 class Timers {
   /** @param {import('../types').Page} page */
   constructor(page) {

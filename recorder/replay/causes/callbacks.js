@@ -8,6 +8,7 @@ const { FIRST_FOREIGN_TIMEOUT, FIRST_LONE_MODULE } = require('../../common/numbe
 
 const TASK_OBSERVERS = new Set(['IntersectionObserver', 'ResizeObserver', 'PerformanceObserver']);
 
+/** A part of `Causes`. */
 class Callbacks {
   /** @param {import('./run-facts.js').RunFacts} run */
   constructor(run) {

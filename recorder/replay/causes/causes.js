@@ -14,6 +14,7 @@ const { RunFacts, wholeAct } = require('./run-facts.js');
 /** How many actions are looked at on the way back from one. */
 const LONGEST_WAY = 60;
 
+/** Made for each recorded run: by recorded.js and suite-loads.js. */
 class Causes {
   /**
    * @param {import('../../races/keys.js').Keys} keys of the run

@@ -14,6 +14,7 @@ const BEFORE_BODY = new Set(['html', 'head']);
 /** @param {string} address */
 const nameOfFile = (address) => address.replace(/[?#].*$/, '').replace(/^.*\//, '');
 
+/** A part of `Causes`. */
 class Files {
   /** @param {import('./run-facts.js').RunFacts} run */
   constructor(run) {

@@ -16,6 +16,7 @@ const ASKS = /^(?:early )?(set|every|ask|post|on|send) (\d+)/;
  */
 const wholeAct = (act) => act - (act % LETTERS_OF_ACT);
 
+/** A part of `Causes`. */
 class RunFacts {
   /**
    * @param {import('../../races/keys.js').Keys} keys of the run

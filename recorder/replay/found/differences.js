@@ -1,5 +1,6 @@
 'use strict';
-// The differences between runs, with those of their pictures, and which of them come from the other order.
+// The differences between runs, with those of their pictures, and which of them come from the other order. Those that are there without it too (noise, as of
+// random numbers or the clock) are left out, whatever the numbers in them.
 
 const { compare } = require('./compare.js');
 const { Pictures } = require('./pictures.js');
@@ -34,6 +35,7 @@ function splitBy(list, some) {
   return { like: list.filter(isIn), unlike: list.filter((one) => !isIn(one)) };
 }
 
+/** Made by `Replay`. */
 class Differences {
   /** @param {import('../../browser/protocol.js').Protocol} browser */
   constructor(browser) {

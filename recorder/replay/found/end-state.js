@@ -1,6 +1,7 @@
 'use strict';
 /* eslint-env browser */
-// The state of a page at the end of a run, as its user and its author find it.
+// The state of a page at the end of a run, as its user and its author find it. Its DOM as lines of text, its form fields, storage and global variables, and a
+// screenshot.
 
 const { within } = require('../../common/time.js');
 
@@ -43,6 +44,7 @@ function fieldsOfPage() {
   return fields;
 }
 
+/** Runs in the page: the items of its storages, and its cookies. */
 function storageOfPage() {
   /** @type {Values} */
   const storage = {};
@@ -69,7 +71,10 @@ function linesOfFrame(frame) {
   }
 }
 
-/** @returns {Shown} */
+/**
+ * Runs in the page: what its user can see and enter, as lines and values.
+ * @returns {Shown}
+ */
 function look() {
   /** @type {NodeListOf<HTMLIFrameElement|HTMLFrameElement>} */
   const found = document.querySelectorAll('iframe,frame');
@@ -115,6 +120,7 @@ function showNode(value) {
 }
 
 /**
+ * Runs in the page: a value as text, to a depth of three objects, and without any call of the page's code.
  * @param {unknown} value
  * @param {unknown[]} seen
  * @returns {string}
@@ -144,7 +150,10 @@ function valueOf(name) {
   return /^[A-Za-z_$][\w$]*$/.test(name) ? (0, eval)(`typeof ${name} === 'undefined' ? undefined : ${name}`) : undefined;
 }
 
-/** @param {string[]} names */
+/**
+ * Runs in the page: the values of global variables by their names.
+ * @param {string[]} names
+ */
 function readVariables(names) {
   /** @type {Values} */
   const values = {};

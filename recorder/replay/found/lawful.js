@@ -42,8 +42,9 @@ async function isBefore(traceFile, action, pair) {
 }
 
 /**
- * @param {string} traceFile
- * @param {Needed[]} actions
+ * Those of the actions that the analyzer puts before neither of the two of a pair.
+ * @param {string} traceFile of the other run
+ * @param {Needed[]} actions by their numbers there
  * @param {number[]} pair
  */
 async function unorderedOf(traceFile, actions, pair) {
@@ -62,6 +63,7 @@ async function unorderedOf(traceFile, actions, pair) {
  */
 
 /**
+ * Compares a run in the other order with what the analyzer says that this order needs.
  * @param {{traceFile: string, keys: Keys, race: {actions: number[]}, number: number}} recorded the race as it was recorded
  * @param {{file: string, keys: Keys, pair: [number, number]}} run its two actions in the other order, as they came
  * @returns {Promise<Ordered|null>} null if the analyzer prints no second order

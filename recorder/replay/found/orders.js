@@ -22,6 +22,7 @@ const byRace = (one, other) => (parseInt(one, 10) || 0) - (parseInt(other, 10) |
  */
 const isOnePair = (race, other) => !!other && pairOf(race) === pairOf(other);
 
+/** Made for each recorded run. */
 class Orders {
   /**
    * @param {Pick<import('../../races/types').Report, 'races'>} report of the recorded run

@@ -1,6 +1,6 @@
 'use strict';
 /* eslint-env browser */
-// Whether two pictures of a page differ, and by how much. The browser itself reads them.
+// Whether two pictures of a page differ, and by how much. The browser itself reads them. Screenshots, pixel by pixel.
 
 const { Tab } = require('../../browser/tab.js');
 
@@ -80,6 +80,7 @@ function boxesOf(rows) {
  */
 const countingOf = (first, second) => `(() => { ${readPicture} ${boxesOf} ${countPoints} return countPoints(${JSON.stringify(first)}, ${JSON.stringify(second)}); })()`;
 
+/** A part of `Differences`. */
 class Pictures {
   /** @param {import('../../browser/protocol.js').Protocol} browser */
   constructor(browser) {

@@ -55,6 +55,7 @@ exports.cases = [
     never: ['run gone', 'w never'],
     races: ['click of button#go'],
   },
+  { page: 'signal-aborted.html', due: ['timer', 'timer', 'on hears', 'w app of window', 'timer', 'inline window app', 'run hears'], races: [] },
   {
     page: 'two-listeners.html',
     due: [

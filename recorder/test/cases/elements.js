@@ -31,6 +31,7 @@ exports.cases = [
     ],
     races: ['lazyLoaded'],
   },
+  { page: 'image-becomes-lazy.html', due: ['exec script', 'parse img plain', 'eload img', 'w got'], races: ['got', 'gotToo'] },
   {
     page: 'object-embed.html',
     due: [
@@ -85,6 +86,12 @@ exports.cases = [
     races: ['added'],
   },
   {
+    page: 'link-kind-late.html', // their handlers come before what makes them load
+    due: ['new link plain', 'parse link image', 'eload link', 'w sheetState', 'load', 'r sheetState', 'r partState', 'r fieldState'],
+    besides: [['new input plain', 'parse input image', 'eload input', 'w fieldState'], ['new object plain', 'new object frame', 'eload object', 'w partState']],
+    races: [],
+  },
+  {
     page: 'inner-html.html',
     due: [
       'new b#made plain', 'on click', 'w click of b#made', 'w #made', 'r #made', 'inline b#made click', 'run click',
@@ -124,6 +131,22 @@ exports.cases = [
   },
   // the definition comes before the element, or it upgrades it
   { page: 'custom-async.html', due: ['parse script async', 'parse x-box#box plain', 'exec script', 'r made'], races: ['made'] },
+  {
+    page: 'custom-in-order.html',
+    due: ['fire x-card attributeChangedCallback', 'w lastSize', 'fire x-card connectedCallback', 'run the reaction before', 'run connectedCallback', 'w count',
+      'fire x-card attributeChangedCallback', 'run the reaction before', 'run attributeChangedCallback', 'fire x-card connectedCallback', 'run the reaction before',
+      'run connectedCallback', 'w count'],
+    races: [],
+  },
+  { page: 'custom-in-table.html', due: ['fire x-card connectedCallback', 'w latest', 'fire x-card attributeChangedCallback', 'w latest', 'fire x-card connectedCallback'], races: ['latest'] },
+  { page: 'custom-two-scripts.html', due: ['fire x-first connectedCallback', 'w latest', 'fire x-second attributeChangedCallback', 'w latest'], races: ['latest'] },
+  {
+    page: 'slot-change.html',
+    due: ['parse p#one plain', 'fire slot slotchange', 'run the step of its first node', 'run slotted', 'r #one', 'w items', 'parse script inline', 'exec script',
+      'run what the parser waited for', 'r items'],
+    races: [],
+  },
+  { page: 'slot-change-late.html', due: ['parse script async', 'run slotted', 'w items'], races: ['#one', 'items'] },
   { page: 'custom-define.html', due: ['parse x-plain plain', 'parse x-heir plain', 'parse x-given plain'], races: [] },
   {
     page: 'custom-constructor.html',

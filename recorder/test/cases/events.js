@@ -109,6 +109,11 @@ exports.cases = [
     races: [],
   },
   {
+    page: 'databases-in-order.html', // no path leads from one call to the other for `other`, and `a` and `b` are two
+    due: ['send', 'reply', 'run gone', 'w fresh', 'reply', 'run the request before', 'run opened', 'r fresh'],
+    races: ['last', 'latest'],
+  },
+  {
     page: 'database-cursor.html', // a change of version is a transaction, and so is what a cursor asks for in one; two transactions have no order
     due: ['run walks', 'run updates', 'w updated', 'run the request before', 'run ends', 'r updated', 'w changed', 'run the request before', 'run opens', 'r changed'],
     besides: [['run finds', 'run counts', 'r deleted', 'run the request before', 'run deletes', 'w deleted']],
@@ -139,6 +144,9 @@ exports.cases = [
     due: ['tick', 'w state', 'run isReady', 'w state', 'run startViewTransition', 'run isDone', 'r state'],
     races: [],
   },
+  { page: 'view-transition-waits.html', due: ['tick', 'reply', 'w state', 'run startViewTransition', 'run isDone', 'r state'], races: [] },
+  { page: 'view-transition-skipped.html', due: ['tick', 'w state', 'timer', 'run isNot', 'r state'], races: ['state'] },
+  { page: 'view-transition-late.html', due: ['tick', 'run isReady', 'w state', 'timer', 'run isDone', 'r state'], races: ['state'] },
 
   // ---- a dialog's `close`, which is never merged; a request that code aborts
   {
@@ -266,6 +274,12 @@ exports.cases = [
   },
   { page: 'history-back.html', due: ['timer', 'w asked', 'new window plain', 'fire window popstate', 'run stepped', 'r asked'], races: [] },
   {
+    page: 'navigation-back.html',
+    due: ['timer', 'w asked', 'new Navigation plain', 'new window plain', 'fire Navigation navigate', 'run goes', 'r asked', 'fire window popstate', 'run stepped', 'r asked'],
+    races: [],
+  },
+  { page: 'navigation-twice.html', due: ['w asked', 'wfire popstate', 'run stepped', 'r asked'], races: ['asked', 'popstate of window'] },
+  {
     page: 'rejections.html',
     due: ['timer', 'w first', 'new window plain', 'fire window unhandledrejection', 'run unhandled', 'r first', 'timer', 'w second', 'new window plain',
       'fire window unhandledrejection', 'r second'],
@@ -277,6 +291,8 @@ exports.cases = [
     races: [],
   },
   { page: 'toggles.html', due: ['set 5', 'set 1', 'set 0', 'w isShown', 'new div#over plain', 'fire div#over toggle', 'run toggle'], never: ['fire dialog#dialog cancel'], races: [] },
+  { page: 'popover-closed.html', due: ['timer', 'w isShown', 'new div#first plain', 'fire div#first toggle', 'run toggle', 'r isShown'], races: [] },
+  { page: 'popover-stays.html', races: ['isShown'] },
   {
     page: 'storage-event.html',
     due: ['timer', 'w first', 'new window plain', 'fire window storage', 'run stored', 'timer', 'w second', 'new window plain', 'fire window storage', 'r second'],
@@ -335,5 +351,30 @@ exports.cases = [
   // messages of a frame that is not recorded come after what made the frame
   { page: 'message-sandboxed.html', due: ['run starts', 'on heard', 'fire iframe message', 'run heard', 'fire iframe message', 'run heard'], races: [] },
   { page: 'message-sandboxed-early.html', due: ['timer', 'on heard', 'fire iframe message', 'run heard'], races: ['message of window'] },
+  {
+    page: 'message-source.html',
+    due: ['run asks', 'post', 'message', 'run child', 'post', 'close', 'back', 'message', 'run heard', 'r answers'],
+    races: [],
+  },
+  {
+    page: 'removed-too-late.html', // the removal finds nothing, as the event came before
+    due: ['on answers', 'w custom of button#ask', 'eload img', 'inline button#ask custom', 'run answers', 'w custom of button#ask', 'timer', 'r custom of button#ask'],
+    races: ['custom of button#ask'],
+  },
+  {
+    page: 'removed-too-early.html', // the removal finds nothing, as the registration came after
+    due: ['eload img', 'r custom of EventTarget', 'timer', 'on answers', 'w custom of EventTarget'],
+    races: ['custom of EventTarget'],
+  },
+  {
+    page: 'attribute-removed.html',
+    due: ['eload img', 'w click of button#one', 'w click of button#two', 'w click of button#three', 'w click of button#four', 'timer', 'inline button#one click', 'r click of button#one'],
+    races: ['click of button#four', 'click of button#one', 'click of button#three', 'click of button#two'],
+  },
+  {
+    page: 'opened-anew.html',
+    due: ['on sized', 'w custom of window', 'timer', 'w custom of window', 'timer', 'on sized', 'w custom of window', 'timer', 'inline window custom', 'run sized'],
+    races: [],
+  },
   { page: 'message-own-and-sandboxed.html', due: ['fire iframe message', 'run heard', 'timer', 'post', 'message', 'run heard'], races: [] },
 ];

@@ -30,6 +30,7 @@ exports.cases = [
   { page: 'put-back.html', due: ['timer', 'timer'] },
   { page: 'made-code.html', words: CLICK, due: ['exec script', 'w byFunction', 'w byExpression', 'w byEval', 'timer', 'w byTimer', 'run click', 'w byHandler'],
     races: ['click of button'], losses: [/^code that is made of a text.*: 3$/, /^handler attributes that scripts set.*: 1$/] },
+  { page: 'inline-inserted.html', due: ['exec script', 'w got'], losses: [/^code that is made of a text.*: 3$/] },
   { page: 'frozen-builtins.html', due: ['timer', 'w total of cart', 'timer', 'r total of cart'], races: ['total of cart', '[a] of kept'] },
   { page: 'replaced-builtins.html', due: ['timer', 'w total of cart', 'timer', 'r total of cart'], never: ['w called'], races: ['total of cart', '[a] of kept'] },
   { page: 'patterns-and-scopes.html',

@@ -51,6 +51,26 @@ exports.cases = [
     besides: [['exec script', 'w free']],
     races: ['free'],
   },
+  { page: 'module-awaited.html', due: ['new script async', 'dcl', 'exec script', 'w fromModule', 'load', 'run what load waits for', 'run all', 'r fromModule'], races: [] },
+  { page: 'module-not-awaited.html', due: ['new script async', 'dcl', 'exec script', 'set 1'], besides: [['load', 'r fromModule']], races: ['fromModule'] },
+  { page: 'data-block-later.html', due: ['timer', 'w allowed', 'new script#late async', 'exec script#late', 'r allowed', 'eload script#late', 'run loaded', 'r allowed'], races: [] },
+  {
+    page: 'last-script-throws.html',
+    due: ['exec script', 'w last', 'on the end of a script', 'fire document readystatechange', 'run the end of a script', 'run states', 'r last', 'exec script', 'w ready'],
+    races: [],
+    throws: true,
+  },
+  {
+    page: 'last-script-broken.html',
+    due: ['exec script', 'inline window error', 'run fails', 'w last', 'fire document readystatechange', 'run the end of a script', 'run states', 'r last'],
+    races: [],
+    throws: true,
+  },
+  {
+    page: 'ready-inserts.html',
+    due: ['fire document readystatechange', 'run states', 'new img image', 'exec script', 'dcl', 'eload img', 'w pictured', 'load', 'run what load waits for', 'run all', 'r pictured'],
+    races: [],
+  },
   {
     page: 'import-call.html',
     due: [
@@ -203,6 +223,22 @@ exports.cases = [
     due: ['w before', 'new script async', 'exec script', 'inline window error', 'run broken', 'r before', 'w faults', 'back', 'eload script', 'run loaded', 'r faults'],
     throws: true,
   },
+  {
+    page: 'import-map-broken.html',
+    due: ['w before', 'parse script plain', 'parse script inline', 'exec script', 'inline window error', 'run broken', 'r before', 'w faults', 'back', 'exec script', 'r faults'],
+    throws: true,
+  },
+  {
+    page: 'module-broken.html',
+    due: ['parse p#text plain', 'w #text', 'exec script', 'w before', 'exec script', 'inline window error', 'run broken', 'r before', 'r #text', 'w faults', 'back', 'exec script', 'r faults'],
+    throws: true,
+  },
+  {
+    page: 'module-imports-broken.html',
+    due: ['w before', 'exec script', 'inline window error', 'run broken', 'r before', 'w faults', 'back', 'inline script load', 'r faults', 'dcl'],
+    throws: true,
+  },
+  { page: 'module-broken-async.html', due: ['wfire error', 'run broken', 'r before'], races: ['before', 'error of window'], throws: true },
   {
     page: 'no-javascript.html',
     due: [

@@ -83,6 +83,7 @@ const KINDS = new Map(Object.entries({
   held: {},
 }).map(([kind, members]) => [kind, new Map(Object.entries(members))]));
 
+/** A part of `Intake`. */
 class Facts {
   /** @param {() => number} countSites how many places of marked code there are */
   constructor(countSites) {

@@ -14,6 +14,7 @@ const BLOCKING = new Set(['inline', 'sync']);
 /** @returns {DocumentState} */
 const newDocument = () => ({ lastStep: 0, lastDeferred: 0, isReady: false, isLoaded: false });
 
+/** A part of `LegalTrace`. */
 class Documents {
   constructor() {
     /** @type {Map<string, DocumentState>} */

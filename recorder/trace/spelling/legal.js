@@ -23,6 +23,7 @@ const DECLARES = new Map(FORMS.filter((form) => !BEGINS.has(form.word) && /^[a-z
 /** What begins once after the note that declares it. */
 const STARTS_ONCE = new Map(FORMS.filter(({ starts, asked }) => starts && asked).map(({ word, starts = '' }) => [word, LETTERS[starts.toLowerCase()]]));
 
+/** Made by `Spelling`, which asks it about each record. */
 class LegalTrace {
   /** @param {number} version */
   constructor(version) {
@@ -110,6 +111,7 @@ class LegalTrace {
   }
 
   /**
+   * Starts what a record of this word starts.
    * @param {string} word
    * @param {string[]} rest
    * @returns {boolean} whether what it starts was declared, has not started, and may start now

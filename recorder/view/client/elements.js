@@ -1,4 +1,4 @@
-// Makes elements. Texts of the recorded page become text nodes only.
+// Makes elements. Texts of the recorded page become text nodes only. So no text of it becomes HTML (no XSS).
 
 const PIECE = 200;
 

@@ -1,20 +1,20 @@
 // The page of the view: lists the problems, filters and orders them. Runs in a reader's browser.
 
 import { control, counted, foldable, make, pieces } from './elements.js';
-import { groups } from './model.js';
-import { problemBox } from './races.js';
+import { lines } from './model.js';
+import { lineBox } from './races.js';
 import { isHarmless, rankOfVerdict } from './replays.js';
 
 /**
  * @typedef {import('./model.js').Race} Race
- * @typedef {import('./races.js').Line} Line
+ * @typedef {import('./model.js').Line} Line
  */
 
-/** A section of the list (list/patterns/table.js), and what its fold says. */
+/** A section of the list (list/patterns/table.js) that is closed at first. */
 const IDLE = 'late handlers that changed nothing recorded';
-const IDLE_IN_WORDS = 'whose late handler ran, and changed nothing that is recorded';
 
 /**
+ * Whether the filter shows a race: its text is compared with `searched` (model.js), the sentence and the location of a race. A reload loses it.
  * @param {Race} race
  * @param {string} kind
  * @param {string} text
@@ -24,72 +24,99 @@ function matches(race, kind, text) {
   return !text || race.searched.includes(text);
 }
 
-/** The groups of which a race matches, each with those of its races. */
+/** The lines of which a race matches, each with those of its groups and races. */
 function filtered() {
   const kind = control('kind').value;
   const text = control('text').value.trim().toLowerCase();
-  const isAll = kind === 'all' && !text;
-  const found = groups.map((group) => ({ ...group, isAll, races: group.races.filter((race) => matches(race, kind, text)) }));
-  return found.filter(({ first, races }) => races.length > 0 || matches(first, kind, text));
+  if (kind === 'all' && !text) return lines;
+  return lines.flatMap((line) => {
+    const groups = line.groups.flatMap((group) => {
+      const races = group.races.filter((race) => matches(race, kind, text));
+      return races.length || matches(group.first, kind, text) ? [{ ...group, races }] : [];
+    });
+    return groups.length ? [{ ...line, groups }] : [];
+  });
 }
 
-/** @param {Line} line */
-const sizeOf = ({ groups: some }) => some.reduce((sum, { size }) => sum + size, 0);
-/** @param {Line} line */
-const rankOf = ({ problem }) => problem?.order ?? Infinity;
-/** @type {{[order: string]: (a: Line, b: Line) => number}} */
+/**
+ * How many races a line has.
+ * @param {Line} line
+ */
+const sizeOf = ({ groups }) => groups.reduce((sum, { size }) => sum + size, 0);
+/**
+ * The number of its first race in the trace.
+ * @param {Line} line
+ */
+const firstOf = ({ groups }) => groups.reduce((least, { first }) => Math.min(least, first.number), Infinity);
+/**
+ * How two lines are compared in each order that a reader can choose; if they are equal, by the next one.
+ * @type {{[order: string]: (a: Line, b: Line) => number}}
+ */
 const ORDERS = {
   verdict: (a, b) => rankOfVerdict(a) - rankOfVerdict(b) || ORDERS.looks(a, b),
-  looks: (a, b) => (rankOf(a) === rankOf(b) ? ORDERS.size(a, b) : rankOf(a) - rankOf(b)),
+  looks: (a, b) => a.order - b.order,
   size: (a, b) => sizeOf(b) - sizeOf(a) || ORDERS.trace(a, b),
-  trace: (a, b) => a.groups[0].number - b.groups[0].number,
+  trace: (a, b) => firstOf(a) - firstOf(b),
 };
 
 /**
- * Groups whose first races are of one problem are one line.
- * @param {import('./model.js').Group[]} found
- */
-function folded(found) {
-  /** @type {Map<unknown, Line>} */
-  const lines = new Map();
-  for (const group of found) {
-    const { problem } = group.first;
-    const line = lines.get(problem || group);
-    if (line) line.groups.push(group);
-    else lines.set(problem || group, { problem, groups: [group] });
-  }
-  return [...lines.values()].sort(ORDERS[control('order').value]);
-}
-
-/**
  * A fold of lines, if there are some.
- * @param {Line[]} lines
- * @param {string} what
+ * @param {string} className
+ * @param {Line[]} some
+ * @param {(string|Node)[]} words
  */
-const fold = (lines, what) => (lines.length ? [foldable('harmless', make('summary', {}, `${counted(lines.length, 'problem')} ${what}`), () => pieces(lines, problemBox))] : []);
+const fold = (className, some, ...words) => (some.length ? [foldable(className, make('summary', {}, ...words), () => pieces(some, lineBox))] : []);
 
 /**
- * The lines in pieces; those that have no visible difference in the other order are folded, and those whose late handler changed nothing.
- * @param {Line[]} lines
+ * The lines in pieces; at their end, folded, those without a visible difference in the other order.
+ * @param {Line[]} some
  */
-function piecesByVerdict(lines) {
-  const harmless = lines.filter(isHarmless);
-  const idle = lines.filter((line) => line.problem?.part === IDLE && !harmless.includes(line));
-  const others = lines.filter((line) => !harmless.includes(line) && !idle.includes(line));
-  return [pieces(others, problemBox), ...fold(idle, IDLE_IN_WORDS), ...fold(harmless, 'with no visible difference in the other order')];
+function piecesByVerdict(some) {
+  const harmless = some.filter(isHarmless);
+  const others = some.filter((line) => !isHarmless(line));
+  return [...(others.length ? [pieces(others, lineBox)] : []), ...fold('harmless', harmless, `${counted(harmless.length, 'problem')} with no visible difference in the other order`)];
 }
 
 /**
- * How many races the groups have: those that are shown if there is a filter.
- * @param {ReturnType<filtered>} found
+ * A section of the list, with its heading.
+ * @param {string} part
+ * @param {Line[]} some
  */
-const countRaces = (found) => found.reduce((sum, { isAll, size, races }) => sum + (isAll ? size : races.length), 0);
+function section(part, some) {
+  const heading = [make('h2', {}, part), make('span', { class: 'size' }, counted(some.length, 'problem'))];
+  if (part === IDLE) return fold('section', some, ...heading);
+  return [make('section', { class: 'section' }, make('header', {}, ...heading), ...piecesByVerdict(some))];
+}
+
+/**
+ * The lines in the order of the list, section by section.
+ * @param {Line[]} some
+ */
+function sections(some) {
+  const parts = [...new Set(some.map(({ part }) => part))];
+  return parts.flatMap((part) => section(part, some.filter((line) => line.part === part)));
+}
+
+/**
+ * How many lines there are, and how many groups and races they have: of a filter, those that match it and are in the page.
+ * @param {Line[]} found
+ */
+function inWords(found) {
+  const groups = found.flatMap((line) => line.groups);
+  const races = groups.reduce((sum, group) => sum + (found === lines ? group.size : group.races.length), 0);
+  const known = found.filter(({ isKnown }) => isKnown).length;
+  const problems = `${counted(found.length - known, 'problem')}${known ? `, ${known} known` : ''}`;
+  return `${problems}: ${counted(new Set(groups.map(({ number }) => number)).size, 'group')} with ${counted(races, 'race')}`;
+}
 
 function render() {
   const found = filtered();
-  const lines = folded(found);
-  control('found').textContent = `${counted(lines.length, 'problem')}: ${counted(found.length, 'group')} with ${counted(countRaces(found), 'race')}`;
-  control('groups').replaceChildren(...piecesByVerdict(lines));
+  const order = control('order').value;
+  const fresh = found.filter(({ isKnown }) => !isKnown);
+  const known = found.filter(({ isKnown }) => isKnown);
+  const boxes = order === 'looks' ? sections(fresh) : piecesByVerdict([...fresh].sort(ORDERS[order]));
+  control('found').textContent = inWords(found);
+  control('groups').replaceChildren(...boxes, ...fold('section', known, make('h2', {}, 'known'), make('span', { class: 'size' }, counted(known.length, 'problem'))));
 }
 
 function start() {

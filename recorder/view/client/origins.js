@@ -1,4 +1,4 @@
-// Draws the origins of actions, and why two of them are ordered.
+// Draws the origins of actions, and why two of them are ordered. Why one action happens before another.
 
 import { make } from './elements.js';
 import { model, races, wordsOf, originsAt } from './model.js';

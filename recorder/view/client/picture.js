@@ -1,4 +1,4 @@
-// The picture of a race: all actions in recorded order in lanes, the two that race, and the links to what they come from.
+// The picture of a race: all actions in recorded order in lanes, the two that race, and the links to what they come from. Lanes and arrows in SVG.
 
 import { make, makeSvg } from './elements.js';
 import { model, originsAt, wordsOf } from './model.js';
@@ -10,6 +10,7 @@ const PICTURE_WIDTH = 1000;
 const MARGIN = 12;
 const MOST_LINKS = 200;
 
+/** Made by races.js for the box of a race that is opened. */
 class Picture {
   /** @param {import('./model.js').Race} race */
   constructor(race) {

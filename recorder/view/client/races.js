@@ -4,17 +4,14 @@ import { badge, counted, foldable, make, pieces } from './elements.js';
 import { raceOf } from './model.js';
 import { whyBox } from './origins.js';
 import { Picture } from './picture.js';
-import { replayBox, verdictBadge } from './replays.js';
+import { isReplayed, replayBox, verdictBadge, verdictBadgeOfLine } from './replays.js';
 import { sourceBox } from './source.js';
 
 /**
  * @typedef {import('./model.js').Race} Race
  * @typedef {import('./model.js').Group} Group
+ * @typedef {import('./model.js').Line} Line
  * @typedef {import('./model.js').ShownProblem} ShownProblem
- */
-/**
- * A line of the view: a problem, and those of its groups that match the filter.
- * @typedef {{problem: ShownProblem|undefined, groups: Group[]}} Line
  */
 
 /** @param {Race} race */
@@ -28,15 +25,19 @@ function raceBox(race) {
 }
 
 /**
+ * A group of races, folded; inside are its first race and the others.
  * @param {Group} group
- * @param {ShownProblem|undefined} problem
+ * @param {ShownProblem|undefined} problem if the group has its words
+ * @param {Line|undefined} line if the group is all of it
  */
-function groupBox({ number, size, first, races }, problem = undefined) {
-  const badges = problem ? lookBadges(problem) : [];
-  const summary = make('summary', {}, badge(first.kind), make('span', { class: 'sentence' }, problem?.summary || first.words), ...badges, ...verdictBadge(first),
+function groupBox({ number, size, first, races }, problem = undefined, line = undefined) {
+  const again = [first, ...races].find(isReplayed) || first;
+  const badges = [...(problem ? lookBadges(problem, line) : []), ...(line ? verdictBadgeOfLine(line) : verdictBadge(again))];
+  const summary = make('summary', {}, badge(first.kind), make('span', { class: 'sentence' }, problem?.summary || first.words), ...badges,
     make('span', { class: 'size' }, counted(size, 'race')));
   return foldable('group', summary, () => {
     const box = make('div', { class: 'inside' }, ...(problem ? [make('p', { class: 'lines' }, first.words), ...toldBoxes(problem)] : []), raceBox(first));
+    if (again !== first) box.append(make('p', { class: 'lines' }, `Another race of its group was run again: ${again.words}`), ...replayBox(again));
     const others = races.filter((race) => race !== first);
     if (others.length) box.append(otherRaces(others));
     const left = size - others.length - 1;
@@ -46,27 +47,29 @@ function groupBox({ number, size, first, races }, problem = undefined) {
 }
 
 /**
- * The pattern of a line, and whether it is known.
+ * The pattern of a problem, and whether its line is known.
  * @param {ShownProblem} problem
+ * @param {Line} [line]
  */
-function lookBadges(problem) {
-  const badges = problem.look === 'other' ? [] : [make('span', { class: `badge look rank${problem.rank}`, title: problem.seen }, problem.look)];
-  return problem.isKnown ? [make('span', { class: 'badge look known' }, 'known'), ...badges] : badges;
+function lookBadges({ look, rank, seen }, line) {
+  const badges = look === 'other' ? [] : [make('span', { class: `badge look rank${rank}`, title: seen }, look)];
+  return line?.isKnown ? [make('span', { class: 'badge look known' }, 'known'), ...badges] : badges;
 }
 
 /**
- * A problem of one group is that group; one of several opens to them.
- * @param {Line} line
+ * A line of one group is that group; one of several opens to them. Groups of its other problems have words of their own.
+ * @param {Line} line those of its groups that match the filter
  */
-function problemBox({ problem, groups }) {
-  if (groups.length === 1 || !problem) return groupBox(groups[0], problem);
+function lineBox(line) {
+  const { problem, problems, groups } = line;
+  if (groups.length === 1) return groupBox(groups[0], problem, line);
   const races = groups.reduce((sum, { size }) => sum + size, 0);
   const first = raceOf.get(problem.first) || groups[0].first;
-  const summary = make('summary', {}, badge(first.kind), make('span', { class: 'sentence' }, problem.summary), ...lookBadges(problem), ...verdictBadge(first),
-    make('span', { class: 'size' }, `${counted(groups.length, 'group')}, ${counted(races, 'race')}`));
+  const summary = make('summary', {}, badge(first.kind), make('span', { class: 'sentence' }, problem.summary), ...lookBadges(problem, line), ...verdictBadgeOfLine(line),
+    make('span', { class: 'size' }, `${counted(groups.length, 'group')}, ${counted(races, 'race')}${problems.length > 1 ? ` in ${problems.length} problems` : ''}`));
   return foldable('problem', summary, () => {
     const box = make('div', { class: 'inside' }, ...toldBoxes(problem));
-    box.append(pieces(groups, (group) => groupBox(group)));
+    box.append(pieces(groups, (group) => groupBox(group, group.problem === problem ? undefined : group.problem)));
     return box;
   });
 }
@@ -82,11 +85,11 @@ function toldBoxes({ look, seen, fix }) {
 
 /** @param {Race[]} others */
 function otherRaces(others) {
-  const summary = make('summary', {}, `${counted(others.length, 'more race')} that this one covers`);
+  const summary = make('summary', {}, `${counted(others.length, 'more race')} of its group`);
   return foldable('others', summary, () => pieces(others, (race) => {
     const line = make('summary', {}, badge(race.kind), make('span', { class: 'sentence' }, race.words), ...verdictBadge(race));
     return foldable('one', line, () => raceBox(race));
   }));
 }
 
-export { problemBox };
+export { lineBox };

@@ -1,9 +1,10 @@
-// Races that were run again in the other order: their verdicts, the differences, and the ends of both runs.
+// Races that were run again in the other order: their verdicts, the differences, and the ends of both runs. With screenshots of both runs.
 
 import { counted, foldable, make, makeSvg } from './elements.js';
 import { model, raceOf } from './model.js';
 
 /**
+ * @typedef {import('./model.js').Line} Line
  * @typedef {import('./model.js').Race} Race
  * @typedef {import('../types').ShownReplay} ShownReplay
  * @typedef {import('../types').Difference} Difference
@@ -31,22 +32,29 @@ function verdictOf(replay) {
 
 /**
  * The badge of a race that was run again, or nothing.
- * @param {Race} race
+ * @param {ShownReplay|undefined} replay
  */
-function verdictBadge(race) {
-  const replay = replayOf.get(race.number);
+function badgesOf(replay) {
   if (!replay) return [];
   const verdict = verdictOf(replay);
   return [make('span', { class: `badge verdict ${verdict}`, title: replay.words }, VERDICTS[verdict]), ...replay.effect ? [make('span', { class: 'badge effect' }, replay.effect)] : []];
 }
 
+/** @param {Race} race */
+const isReplayed = ({ number }) => replayOf.has(number);
+
+/** @param {Race} race */
+const verdictBadge = (race) => badgesOf(replayOf.get(race.number));
+
 /**
  * What was found of the races of a line: the replay with the worst effect.
- * @param {import('./races.js').Line} line
+ * @param {Line} line
  */
-function replayOfLine({ problem, groups }) {
-  const firsts = new Set([problem?.first, ...groups.map(({ first }) => first.number)]);
-  const found = [...replayOf.values()].filter(({ race }) => firsts.has(race) || (problem && raceOf.get(race)?.problem === problem));
+function replayOfLine({ problems }) {
+  const found = [...replayOf.values()].filter(({ race }) => {
+    const problem = raceOf.get(race)?.problem;
+    return problem && problems.includes(problem);
+  });
   return found.sort((a, b) => rankOfReplay(a) - rankOfReplay(b))[0];
 }
 
@@ -56,10 +64,13 @@ function rankOfReplay(replay) {
   return verdict === 'differs' ? EFFECTS.indexOf(replay?.effect || '') : RANKS[verdict];
 }
 
-/** @param {import('./races.js').Line} line */
+/** @param {Line} line */
 const rankOfVerdict = (line) => rankOfReplay(replayOfLine(line));
 
-/** @param {import('./races.js').Line} line */
+/** @param {Line} line */
+const verdictBadgeOfLine = (line) => badgesOf(replayOfLine(line));
+
+/** @param {Line} line */
 const isHarmless = (line) => verdictOf(replayOfLine(line)) === 'same';
 
 // ---- the box of a race
@@ -105,7 +116,10 @@ function foldedTable(differences, words) {
 /** @param {string} text */
 const asSentence = (text) => `${text[0].toUpperCase()}${text.slice(1)}.`;
 
-/** @param {Race} race */
+/**
+ * What a replay found of a race, as elements; none if it was not replayed.
+ * @param {Race} race
+ */
 function replayBox(race) {
   const replay = replayOf.get(race.number);
   if (!replay) return [];
@@ -127,4 +141,4 @@ function replayBox(race) {
   return [box];
 }
 
-export { isHarmless, rankOfVerdict, replayBox, verdictBadge };
+export { isHarmless, isReplayed, rankOfVerdict, replayBox, verdictBadge, verdictBadgeOfLine };

@@ -1,0 +1,1 @@
+customElements.define('x-first', class First extends HTMLElement { connectedCallback() { window.latest = 'first'; } });

@@ -1,0 +1,1 @@
+seen = window.allowed;
