@@ -3,9 +3,9 @@
 import { Map } from '../core/taken.js';
 import { callOfLibrary } from '../log/stack.js';
 
-/** So many calls are looked for in an action, and for a site: a stack costs as much as hundreds of accesses. */
-const MOST_OF_ACTION = 100;
-const MOST_OF_SITE = 500;
+/** So many calls are looked for in an action, and for a site: a stack costs 30 to 80 microseconds, as hundreds of accesses do. */
+const MOST_OF_ACTION = 40;
+const MOST_OF_SITE = 200;
 /** So many different ones are known. */
 const MOST_KNOWN = 20000;
 /** Numbers of places with a call are below -1, which is no place. */
