@@ -3,7 +3,7 @@
 import { Map } from '../core/taken.js';
 import { callOfLibrary } from '../log/stack.js';
 
-/** So many calls are looked for in an action, and for a site: a stack costs 30 to 80 microseconds, as hundreds of accesses do. */
+/** So many calls are looked for in an action, and for a site: a stack costs as much as hundreds of accesses. */
 const MOST_OF_ACTION = 40;
 const MOST_OF_SITE = 200;
 /** So many different ones are known. */
