@@ -151,6 +151,14 @@ function isToReplay({ options, mayReplay }, listing, recorder) {
 }
 
 /**
+ * What the user did in a recording, and how often the page failed, in words.
+ * @param {Recorder} recorder
+ */
+function doneIn({ acts, errors: { length } }) {
+  return `${acts.doneInWords()}${length ? `; ${length} uncaught error${length > 1 ? 's' : ''}` : ''}`;
+}
+
+/**
  * Prints the list of all runs, and replays its races if requested. Returns the status: 0 if there is no race that is not known.
  * @param {Call} call
  * @param {View[]} runs
@@ -167,7 +175,7 @@ async function listRuns(call, runs, known, recorder, incomplete) {
   const hasReplays = isToReplay(call, listing, recorder);
   const replayed = hasReplays ? await replayRaces(recorder, { ...options, name: 'er_page' }, files[0], { report, model, linked, listing }) : STATUS.ok;
   if (call.mayReplay && !hasReplays) writePage(files[0], await linked);
-  tellLines(listing, options, !incomplete);
+  tellLines(listing, options, !incomplete, doneIn(recorder));
   writeOutputs(listing, options, { page: redacted(given), status, files, folder: servedFolder(call) });
   const others = [...hasReplays ? ['page.replay.json'] : [], ...runs.length > 1 ? [`runs/2 to runs/${runs.length}`] : []];
   const printLine = options.isJson ? printError : print;

@@ -172,21 +172,25 @@ class User {
   }
 
   /**
-   * Clicks at what the seed picks; `around` does each.
+   * Clicks at what the seed picks; `around` does each. What led to another page is not clicked again.
    * @param {number} clicks
    * @param {number} seed
    * @param {(label: string, act: () => Promise<Outcome>) => Promise<unknown>} around
-   * @param {RegExp|null} avoided
+   * @param {{avoided?: RegExp|null, countSteps?: () => number}} more `countSteps`: how often the page began to go to another one
    */
-  async clickAround(clicks, seed, around, avoided = null) {
+  async clickAround(clicks, seed, around, { avoided = null, countSteps = () => 0 } = {}) {
+    /** @type {string[]} */
+    const left = [];
     for (let k = 0; k < clicks; k++) {
-      const target = await this.call(pickTarget, seed * 7919 + k * 104729, avoided && avoided.source);
+      const target = await this.call(pickTarget, seed * 7919 + k * 104729, avoided && avoided.source, left);
       if (!target) return;
-      const { label, ...place } = target;
+      const { label, link, ...place } = target;
       /** @type {SpotAct} */
       const spot = { isEarly: false, kind: 'spot', ...place, said: `click:${target.what}` };
       this.picks.push(spot);
+      const steps = countSteps();
       await around(label, () => this.act(spot));
+      if (countSteps() > steps) left.push(link);
     }
   }
 

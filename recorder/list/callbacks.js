@@ -8,8 +8,8 @@ const { UNSEEN } = require('../races/words.js');
 /** @typedef {import('./types').Place} Place */
 /** @typedef {import('../races/actions.js').Action} Action */
 /**
- * What was requested, where, and by way of which place in a library.
- * @typedef {{function?: string, place?: Place|null, way?: Place}} Asked
+ * What was requested, where, and by way of which place in a library; `ready` is where the page passed a callback to jQuery's `ready`, which set a timeout.
+ * @typedef {{function?: string, place?: Place|null, way?: Place, ready?: Place}} Asked
  */
 
 /** @type {{[why: string]: [what: string, asked: string]}} */
@@ -18,23 +18,34 @@ const INTERVALS = {
   requestIdleCallback: ['idle callback', 'requested'], 'import()': ['module', 'requested'],
 };
 
+/** Where a callback was requested, and, if that is in a library, the page's own place. */
+const ASKED = /, [a-z]+ at (\S+)(?: \((?:from (\S+)|via \S+)\))?$/;
+/** Events that report on the file of their element. */
+const AT_FILE = new Set(['load', 'error']);
+
 /** What comes before the path of an address, and before the last part of it. */
 const ORIGIN = /^\w+:\/\/[^/?#]*/;
 const FOLDERS = /^[^?#]*\/(?=[^/?#])/;
-/** Events at an element, whose number is their third word. */
-const AT_ELEMENT = new Set(['fire', 'inline', 'eload']);
 /** So many requests are followed back from an action to code of the page's own. */
 const MOST_STEPS = 20;
 /** How an action comes from the one that requested it (races/actions.js). */
 const REQUESTED = new Set(['asked for by', 'registered by', 'called by', 'goes on from']);
 
+/**
+ * What a library has set for a callback that the page passed to it is where the page did.
+ * @param {Asked|undefined} facts @returns {Asked|undefined}
+ */
+const passed = (facts) => (facts?.ready ? { place: facts.ready } : facts);
+
 class Callbacks {
   /**
    * @param {import('../races/words.js').Words} words
+   * @param {import('./element-words.js').ElementWords} elements
    * @param {(place: Place|null|undefined) => string} placeInWords
    */
-  constructor(words, placeInWords) {
+  constructor(words, elements, placeInWords) {
     this.words = words;
+    this.elements = elements;
     this.names = /** @type {import('./types').Names} */ (words.names);
     this.placeInWords = placeInWords;
   }
@@ -48,9 +59,10 @@ class Callbacks {
     const { names } = this;
     const [word, a, b] = action.words;
     switch (word) {
-      case 'parse': return `parser at ${this.words.element(b)}`;
+      case 'parse': return `parser at ${this.elements.named(b)}`;
+      case 'eload': return `load of ${this.elements.of(b)}`;
       case 'exec': return this.script(a);
-      case 'timer': return this.asked('timeout', 'scheduled', names.timeouts[a], number);
+      case 'timer': return this.timeout(names.timeouts[a], number);
       case 'tick': case 'anim': return this.tick(a, number);
       case 'reply': return this.reply(b, number);
       case 'message': return this.asked('message', 'posted', names.messages?.[a], number);
@@ -100,8 +112,8 @@ class Callbacks {
   requestOf({ words: [word, a, b, c] }) {
     const { names } = this;
     switch (word) {
-      case 'timer': return names.timeouts[a];
-      case 'tick': case 'anim': return { ...names.timeouts[Number(a) - FIRST_FOREIGN_TIMEOUT], ...names.intervals[a] };
+      case 'timer': return passed(names.timeouts[a]);
+      case 'tick': case 'anim': return passed({ ...names.timeouts[Number(a) - FIRST_FOREIGN_TIMEOUT], ...names.intervals[a] });
       case 'reply': return names.requests[b];
       case 'message': return names.messages?.[a];
       case 'run': return names.handlers[c];
@@ -110,24 +122,22 @@ class Callbacks {
   }
 
   /**
+   * A timeout, or a callback of the page that jQuery's `ready` runs in one.
+   * @param {Asked|undefined} facts @param {number} action
+   */
+  timeout(facts, action) {
+    if (facts?.ready) return this.asked("callback of jQuery's ready", 'registered', { place: facts.ready }, action);
+    return this.asked('timeout', 'scheduled', facts, action);
+  }
+
+  /**
    * A script in words; its place, if it has no file, only where two sides are told apart.
    * @param {string} number @returns {string}
    */
   script(number) {
-    const words = this.words.script(number).replace(/^the /, '');
-    return this.words.isApart ? words : words.replace(/ at .*$/, '');
-  }
-
-  /**
-   * The file that an element loads, where two sides are told apart.
-   * @param {string} number
-   * @returns {string} '' if it loads none
-   */
-  ofFile(number) {
-    const facts = this.names.elements[number] || {};
-    if (facts.standsFor) return this.ofFile(String(facts.standsFor));
-    const source = facts.source || facts.loads;
-    return this.words.isApart && source ? ` of ${this.words.nameOfSource(source)}` : '';
+    const file = this.elements.fileOf(number);
+    if (file) return `script ${file}`;
+    return this.words.isApart ? this.words.script(number).replace(/^the /, '') : 'script';
   }
 
   /**
@@ -136,7 +146,7 @@ class Callbacks {
    */
   tick(number, action) {
     const facts = this.names.intervals[number] || {};
-    if (!facts.why) return this.asked('timeout', 'scheduled', { ...this.names.timeouts[Number(number) - FIRST_FOREIGN_TIMEOUT], ...facts }, action);
+    if (!facts.why) return this.timeout({ ...this.names.timeouts[Number(number) - FIRST_FOREIGN_TIMEOUT], ...facts }, action);
     const [what, verb] = INTERVALS[facts.why] || [`callback of ${shown(facts.why)}`, 'requested'];
     return this.asked(what, verb, facts, action);
   }
@@ -169,10 +179,47 @@ class Callbacks {
     if (facts.type === 'await') return this.asked('code after await', 'waiting', { ...facts, function: '' }, action.number);
     if (facts.type === 'job') return this.asked('promise reaction', 'set', facts, action.number);
     const place = facts.place || this.names.elements[facts.target ?? '']?.place;
-    const [word = '', , number = ''] = action.dispatch?.words || [];
-    const of = word === 'reply' ? ` of ${this.request(number)}` : AT_ELEMENT.has(word) ? this.ofFile(number) : '';
-    return this.asked(`${shown(facts.type || 'event')} handler${of}`, 'registered', { ...facts, place }, action.number);
+    return this.asked(`${shown(facts.type || 'event')} handler${this.ofReported(action)}`, 'registered', { ...facts, place }, action.number);
+  }
+
+  /**
+   * What a handler hears of, as of a load: a request, or an element with a file.
+   * @param {Action} action
+   */
+  ofReported({ dispatch }) {
+    const [word, , number, type] = dispatch?.words || [];
+    if (word === 'reply') return ` of ${this.request(number)}`;
+    const isOfFile = word === 'eload' || (AT_FILE.has(type) && (word === 'fire' || word === 'inline'));
+    const file = isOfFile ? this.elements.fileOf(number) : '';
+    return file && ` of ${file}`;
+  }
+
+  // ---- in sentences
+
+  /**
+   * What runs in an action, as the subject of a sentence: without where it was requested.
+   * @param {number} number @param {boolean} hasPlace whether that place is added all the same
+   */
+  subject(number, hasPlace = false) {
+    const { words: [word, a] } = this.words.actions.list[this.words.actions.list[number].first];
+    const text = word === 'exec' && !this.elements.fileOf(a) ? this.words.script(a) : this.of(number).replace(ASKED, (whole, at, own) => (hasPlace ? ` at ${own || at}` : ''));
+    return /^(?:DOMContentLoaded|code whose|the |an? )/.test(text) ? text : `the ${text}`;
+  }
+
+  /**
+   * The subjects of a sentence about two sides, which are different. The second is the first in the sentence.
+   * @param {number} one an action @param {number} other an action
+   * @returns {[string, string]}
+   */
+  subjects(one, other) {
+    /** @type {(hasPlace: boolean) => [string, string]} */
+    const both = (hasPlace) => [this.subject(one, hasPlace), this.subject(other, hasPlace)];
+    for (const tell of [() => both(false), () => both(true), () => this.words.apart(() => both(true))]) {
+      const [first, second] = tell();
+      if (first !== second) return [first, second];
+    }
+    return ['another one', `one run of ${this.subject(one, true)}`];
   }
 }
 
-module.exports = { Callbacks };
+module.exports = { Callbacks, ASKED };

@@ -2,6 +2,7 @@
 // What the list says of a problem: the sentence, the two sides with what else has the same two places, what a replay found, and the stable name. One entry of
 // the printed report.
 
+const { ASKED } = require('./callbacks.js');
 const { Sides, summaryOf } = require('./sides.js');
 const { pathInFolder } = require('./places.js');
 const { APART } = require('./patterns/table.js');
@@ -25,9 +26,6 @@ const { APART } = require('./patterns/table.js');
 const MOST_NAMED = 3;
 /** So many races of a problem are looked through for what else has the same two places. */
 const MOST_RACES = 500;
-
-/** Where a callback was requested, and the place in a library by way of which. */
-const ASKED = /, [a-z]+ at (\S+)(?: \((?:via|from) \S+\))?$/;
 
 /**
  * The first few texts, without the words at the start that all of them have; of what has the same words, with where it was requested.

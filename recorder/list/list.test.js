@@ -105,7 +105,7 @@ test('problems at one location are one line, but where their names are asked for
   assert.strictEqual(problems.lines().length, 3);
   const told = linesOf(new Listing([problems], null));
   const heads = (/** @type {string[]} */ all) => all.filter((line) => /^\S+ {2}/.test(line));
-  assert.deepStrictEqual(heads(told).map((line) => line.replace(/ {3,}/, '   ')), ['app.3f9a2b71.js:4  `count` may change before or after it is written   other']);
+  assert.deepStrictEqual(heads(told).map((line) => line.replace(/ {3,}/, '   ')), ['app.3f9a2b71.js:4  `count` keeps what is written last, by the timeout at app.3f9a2b71.js:1:22 or by the timeout at app.3f9a2b71.js:2:1  other']);
   assert.match(told[4], /^ {4}[0-9a-f]{12} \(for races\.known\), and 2 more races in 3 problems$/);
   assert.strictEqual(heads(linesOf(new Listing([problems], new Known('', 'known')))).length, 3);
 });
@@ -173,7 +173,7 @@ test('the place of a library\'s call is that of the page\'s own code from which 
   const races = await problemsOf(['parse 0 2 inline', 'exec 2', 'set 2 0', 'set 3 9', 'timer 2', 'set 1 0', 'timer 1', 'w var 0 count', 'timer 3', 'w var 0 count'],
     { ...TIMER_FACTS, files: [...NAMES.files, library], timeouts: { ...timers, 3: { place: [2, 1, 9] } }, places: { 4: [1, 1, 22], 5: [2, 1, 9], 7: [2, 1, 1], 9: [2, 1, 5], 11: [2, 1, 7] } });
   const [head, first] = linesOf(new Listing([races], null));
-  assert.match(head, /^app\.3f9a2b71\.js:1 {2}`count` may change/);
+  assert.match(head, /^app\.3f9a2b71\.js:1 {2}`count` keeps what is written last/);
   assert.match(first, /jquery\.js:1:5 {2}timeout, scheduled at jquery\.js:1:1 \(from app\.3f9a2b71\.js:1:22\)$/);
 });
 
@@ -244,7 +244,7 @@ test('a line looks as the worst race that it covers, and has its words', async (
   const [{ line }] = listing.told();
   const { sentence, details } = listing.entryOf(line);
   assert.strictEqual(sentence, 'A click at button#go is lost until its handler is registered');
-  assert.deepStrictEqual(details[0], ['cause', '`ready` may change before or after it is read at page.html']);
+  assert.deepStrictEqual(details[0], ['cause', 'The script may write `ready` before or after the click at button#go reads it at page.html']);
   assert.strictEqual(line.look.name, 'late handler');
   assert.match(line.words, /^"ready"/);
   assert.match(line.look.seen, /^and covered by it, a handler that comes late: .*: The handler "click of button#go" is set by .* and looked for by the click at button#go; nothing orders them\.$/);

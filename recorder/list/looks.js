@@ -7,6 +7,7 @@ const { FIRST_FIELD, FIRST_MODULE } = require('../common/numbers.js');
 const { isOfTree } = require('../races/spelled-locations.js');
 const { Accesses, isNothing } = require('./patterns/accesses.js');
 const { UserActs } = require('./patterns/user-acts.js');
+const { Remaining } = require('./patterns/remaining.js');
 const { detailOf, lookOf } = require('./patterns/table.js');
 const { isTypedOver } = require('./patterns/typed.js');
 
@@ -55,6 +56,7 @@ class Looks {
     }
     /** @type {Map<number, boolean>} by the action of a run, whether it did nothing that the trace has but reads */
     this.idle = new Map();
+    this.remaining = new Remaining(report, this.accesses, words.actions);
   }
 
   /**
@@ -210,7 +212,7 @@ class Looks {
     if (accesses.isWrittenBefore(location, actions[k], read) || accesses.isOfCache(read, actions[k], location)) return null;
     const what = location.startsWith('elem') ? 'a look-up before the element is there' : 'a use before the definition';
     const detail = detailOf('undefined', location.split(' ')[0], '');
-    if (k === 1) return accesses.isEmpty(value, location) ? null : lookOf('undefined', `${what}: here it was there, and in the other order nothing is found`, detail);
+    if (k === 1) return accesses.isEmpty(value, location) || this.remaining.isFoundWithout(location, actions[1 - k], actions[k], read) ? null : lookOf('undefined', `${what}: here it was there, and in the other order nothing is found`, detail);
     const hasFound = value === undefined ? accesses.isWrittenBetween(location, read, write) : !accesses.isEmpty(value, location);
     return hasFound ? null : lookOf('undefined', `${what}: here nothing was found`, detail);
   }

@@ -26,8 +26,9 @@ const PLAIN = { hasColor: false, width: 100, isTerminal: false };
  * @param {Listing} listing
  * @param {boolean} isComplete false if the recording lacks something of what was to be recorded
  * @param {Style} style
+ * @param {string} done what was done in the page, for a list without a race
  */
-function linesOf(listing, isComplete = true, style = PLAIN) {
+function linesOf(listing, isComplete = true, style = PLAIN, done = '') {
   const told = listing.told();
   const lines = told.length > 1 ? wrapped(countsOf(listing), style.width, '    ') : [];
   let part = '';
@@ -40,7 +41,7 @@ function linesOf(listing, isComplete = true, style = PLAIN) {
     lines.push(...linesOfEntry(listing.entryOf(line, others), style), '');
   });
   const none = listing.known && listing.problems.length ? 'No race that is not known' : 'No race';
-  if (!told.length) lines.push(isComplete ? `${none}.` : `${none} in what was recorded, which is not complete.`);
+  if (!told.length) lines.push(`${none}${isComplete ? '' : ' in what was recorded, which is not complete'}.${done && ` Done in the page: ${done}.`}`);
   return [...lines, ...knownLines(listing), ...librariesLine(listing)];
 }
 
@@ -97,11 +98,12 @@ function librariesLine({ runs }) {
  * @param {Listing} listing
  * @param {OutputOptions} options
  * @param {boolean} isComplete
+ * @param {string} done what was done in the page
  */
-function tellLines(listing, options, isComplete = true) {
+function tellLines(listing, options, isComplete = true, done = '') {
   if (options.isJson) return;
   const style = styleOf(process.stdout, process.env, options.color);
-  linesOf(listing, isComplete, style).forEach((line) => printStyled(line));
+  linesOf(listing, isComplete, style, done).forEach((line) => printStyled(line));
   if (style.isTerminal && listing.told().length) printStyled(HELP);
 }
 

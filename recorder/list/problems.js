@@ -20,6 +20,9 @@ const { ProblemWords, listed } = require('./problem-words.js');
  * @typedef {Omit<Problem, 'first'|'words'>} Folded
  */
 
+/** Locations that many writes change in parts. */
+const IN_PARTS = / (?:\([a-z]+\)|content|style|class|length)$/;
+
 /** Made by view.js for each analyzed trace. */
 class Problems {
   /**
@@ -35,6 +38,7 @@ class Problems {
     this.inWords = new ProblemWords(this.words, report.races);
     const looks = new Looks(report, names, this.words);
     this.userActs = looks.userActs;
+    this.accesses = looks.accesses;
     /** @type {NamedRace[]} */
     this.ofRaces = report.races.map((race) => Object.assign(this.lasting.nameRace(race), { look: looks.look(race) }));
     /** The race that is shown for each group. */
@@ -160,6 +164,15 @@ class Problems {
     const covered = `and covered by it, ${look.seen ? `${look.seen}: ` : ''}${this.words.race(this.report.races[race])}`;
     one.look = { ...look, seen: [one.look.seen, covered].filter(Boolean).join('; ') };
     one.worst = race;
+  }
+
+  /**
+   * Whether each side of a race writes all of a thing: an element's content, a set of keys or a number of items keeps a part of what was there, and two
+   * elements can have one id.
+   * @param {Race} race
+   */
+  isReplaced({ location, modes, lines, actions }) {
+    return modes === 'ww' && location.startsWith('var ') && !IN_PARTS.test(location) && lines.every((line, k) => !this.accesses.isUpdate(line, actions[k], location));
   }
 
   /**

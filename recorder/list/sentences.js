@@ -6,8 +6,9 @@
  * @typedef {import('./sides.js').Side} Side
  */
 /**
- * What a sentence is made of: the two sides of a race in the order of the list, the thing that they touch and the field that a user fills in, in words.
- * @typedef {{sides: [Side, Side], thing: string, field: string, modes: string, kind: string}} Facts
+ * What a sentence is made of: the two sides of a race in the order of the list, what acts in each as the subject of a sentence, the thing that they touch
+ * and the field that a user fills in, in words. `isReplaced`: each side writes all of the thing, and keeps nothing of what was there.
+ * @typedef {{sides: [Side, Side], subjects: [string, string], thing: string, field: string, modes: string, kind: string, isReplaced: boolean}} Facts
  */
 
 /** @param {string} text */
@@ -18,12 +19,19 @@ const withArticle = (word) => `${/^[aeiou]/i.test(word) ? 'an' : 'a'} ${word}`;
 /** @param {Side} side a dispatch that looks for handlers */
 const eventOrActor = ({ event, actor }) => (event ? withArticle(event) : actor);
 
-/** @param {Facts} facts */
-function neutral({ thing, modes, kind }) {
-  if (kind === 'handler') return `another handler of ${thing} may come before or after the one that is registered`;
-  if (kind === 'element') return `${thing} may change before or after it is ${modes === 'ww' ? 'added or changed' : 'looked up'}`;
-  return `${thing} may change before or after it is ${modes === 'ww' ? 'written' : 'read'}`;
+/**
+ * The place that comes after the sentence is that of the first side, so this side comes last in it.
+ * @param {Facts} facts
+ */
+function neutral({ sides, subjects: [one, other], thing, modes, kind, isReplaced }) {
+  if (kind === 'handler') return `${other} may register or remove a handler of ${thing} before or after ${one} does`;
+  if (modes === 'ww' && isReplaced) return `${thing} keeps what is written last, by ${other} or by ${one}`;
+  const change = kind === 'element' ? 'add or change' : 'write';
+  return `${other} may ${change} ${thing} before or after ${one} ${modes === 'ww' ? 'does' : READS[sides[0].verb] || 'reads it'}`;
 }
+
+/** @type {{[verb: string]: string}} by the verb of a side */
+const READS = { 'looks up': 'looks it up', 'writes again': 'writes it again' };
 
 /** @type {Record<LookKey, (facts: Facts) => string>} */
 const SENTENCES = {

@@ -17,7 +17,7 @@ const SIDE = { verb: '', what: '', place: '', actor: 'DOMContentLoaded', event: 
  * @param {Key} look
  * @param {Partial<Facts>} given
  */
-const sentence = (look, given = {}) => sentenceOf(look, { sides: [SIDE, SIDE], thing: '`x`', field: 'input#q', modes: 'rw', kind: 'variable', ...given });
+const sentence = (look, given = {}) => sentenceOf(look, { sides: [SIDE, SIDE], subjects: ['the timeout show', 'the reply of a.json'], thing: '`x`', field: 'input#q', modes: 'rw', kind: 'variable', isReplaced: false, ...given });
 
 test('what a user loses is named by the event, the field or the act', () => {
   assert.strictEqual(sentence('late', { sides: [SIDE, { ...SIDE, event: 'input at input#q' }] }), 'An input at input#q is lost until its handler is registered');
@@ -36,6 +36,14 @@ test('an element is not in the page yet, and a variable is not defined yet', () 
 
 test('every pattern has a sentence that starts with a capital or a name, and has no end', () => {
   for (const key of /** @type {Key[]} */ (Object.keys(LOOKS))) assert.match(sentence(key), /^[A-Z`].*[^.]$/, key);
-  assert.strictEqual(sentence('other'), '`x` may change before or after it is read');
-  assert.strictEqual(sentence('other', { modes: 'ww' }), '`x` may change before or after it is written');
+});
+
+test('where no harm is known, both sides are named', () => {
+  assert.strictEqual(sentence('other'), 'The reply of a.json may write `x` before or after the timeout show reads it');
+  assert.strictEqual(sentence('other', { modes: 'ww' }), 'The reply of a.json may write `x` before or after the timeout show does');
+  assert.strictEqual(sentence('other', { modes: 'ww', isReplaced: true }), '`x` keeps what is written last, by the reply of a.json or by the timeout show');
+  assert.strictEqual(sentence('other', { sides: [{ ...SIDE, verb: 'writes again' }, SIDE] }), 'The reply of a.json may write `x` before or after the timeout show writes it again');
+  assert.strictEqual(sentence('other', { sides: [{ ...SIDE, verb: 'looks up' }, SIDE], kind: 'element', thing: '`#a`' }), 'The reply of a.json may add or change `#a` before or after the timeout show looks it up');
+  assert.strictEqual(sentence('other', { modes: 'ww', kind: 'element', thing: '`#a`' }), 'The reply of a.json may add or change `#a` before or after the timeout show does');
+  assert.match(sentence('other', { modes: 'ww', kind: 'handler', thing: 'click of a' }), /^The reply of a\.json may register or remove a handler of click of a before or after the timeout show does$/);
 });

@@ -5,7 +5,7 @@
 const { FIRST_FIELD, FIRST_OBJECT } = require('../common/numbers.js');
 const { shown } = require('../common/shown.js');
 const { Callbacks } = require('./callbacks.js');
-const { labelOf } = require('./element-labels.js');
+const { ElementWords } = require('./element-words.js');
 const { fixOf } = require('./fixes.js');
 const { sentenceOf } = require('./sentences.js');
 
@@ -44,7 +44,8 @@ class Sides {
     this.problems = problems;
     this.words = problems.words;
     this.fileOf = fileOf;
-    this.callbacks = new Callbacks(this.words, (place) => this.place(place));
+    this.elements = new ElementWords(this.words, (place) => this.place(place, false));
+    this.callbacks = new Callbacks(this.words, this.elements, (place) => this.place(place));
   }
 
   // ---- places
@@ -77,7 +78,8 @@ class Sides {
     const facts = Number(digits) >= FIRST_OBJECT ? this.problems.names.objects?.[digits] : undefined;
     const name = this.words.unescape(spelled);
     if (facts?.scope !== undefined && NAME.test(name)) return name;
-    return facts?.text && facts.scope === undefined && NAME.test(facts.text) && NAME.test(name) ? `${facts.text}.${name}` : text;
+    if (facts?.text && facts.scope === undefined && NAME.test(facts.text) && NAME.test(name)) return `${facts.text}.${name}`;
+    return this.elements.inText(location, text);
   }
 
   /**
@@ -86,7 +88,7 @@ class Sides {
    */
   field(location) {
     const number = Number(location.split(' ')[1]);
-    return number >= FIRST_FIELD && number < FIRST_OBJECT ? this.words.element(number - FIRST_FIELD) : this.thing(location);
+    return number >= FIRST_FIELD && number < FIRST_OBJECT ? this.elements.of(number - FIRST_FIELD) : this.thing(location);
   }
 
   // ---- sides
@@ -117,23 +119,9 @@ class Sides {
   eventInWords(number) {
     const { words: [word, , element, type] } = this.words.actions.list[this.words.actions.list[number].first];
     if (!EVENTS.has(word) || type === 'then') return null;
-    const target = word === 'wfire' ? 'the window' : this.words.element(element) + this.labelOf(element) + this.callbacks.ofFile(element);
+    const target = word === 'wfire' ? 'the window' : this.elements.named(element);
     const verb = `${this.words.unescape(type)} at`;
     return { verb, target, words: `${verb} ${target}` };
-  }
-
-  /**
-   * What tells an element apart that has neither an id nor the name of a field.
-   * @param {string|number} number
-   * @returns {string}
-   */
-  labelOf(number) {
-    const { tag = '', id, field, standsFor } = this.problems.names.elements[number] || {};
-    if (standsFor) return this.labelOf(standsFor);
-    const place = tag && !id && !field ? this.words.placeOfElement(number) : null;
-    if (!place) return '';
-    const [file, line, column] = place;
-    return labelOf((this.words.sources.linesOf(file)[line] || '').slice(column - 1), tag);
   }
 
   /**
@@ -204,7 +192,8 @@ class Sides {
     if (isAlike(sides)) sides.forEach((side, k) => { side.actor = `${side.actor || side.what}, run ${this.words.nthOf(this.firstOf(race.actions[k === 0 ? first : 1 - first])) + 1}`; });
     const at = sides[0].own || sides[1].own || sides[0].at || sides[1].at;
     const thing = kind === 'handler' ? this.thing(race.location) : marked(this.thing(race.location));
-    const sentence = sentenceOf(look, { sides, thing, field: this.field(race.location), modes: race.modes, kind });
+    const subjects = this.callbacks.subjects(race.actions[first], race.actions[1 - first]);
+    const sentence = sentenceOf(look, { sides, subjects, thing, field: this.field(race.location), modes: race.modes, kind, isReplaced: this.problems.isReplaced(race) });
     return { sentence, place: at ? this.place(at, false) : this.page(), sides, fix: fixOf(look, { kind, isOfUser: !!sides[0].act, modes: race.modes }) };
   }
 

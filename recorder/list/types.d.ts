@@ -18,6 +18,7 @@ export interface Facts {
   id?: string;
   field?: string;
   source?: string;
+  /** The whole address of what an element loads: code may set it after the element was first met, when there was no source. */
   loads?: string;
   standsFor?: number;
   message?: number;
@@ -32,6 +33,7 @@ export interface Facts {
   method?: string;
   place?: Place;
   way?: Place;
+  ready?: Place;
 }
 
 /** What is known of an object, a closure or a module. */
@@ -74,6 +76,7 @@ export interface Names {
   functions?: { [place: string]: string };
   places: { [line: string]: Place };
   ways?: { [line: string]: Place };
+  callers?: { [line: string]: Place };
   values?: { [line: string]: string };
   befores?: { [line: string]: string };
   counts?: { [line: string]: boolean };

@@ -16,7 +16,7 @@ const USER_AND_NETWORK = `User and network:
                     DevTools exported as JSON. Without URL, its own page is loaded. If
                     it loads several pages, er_page records each, and lists all
   --keep-going      if a step cannot be done, warn and go on
-  --clicks N        then click N times on what is in view, chosen by the seed
+  --clicks N        then click N times, chosen by the seed, first on what is in view
   --seed N          seed for --clicks (1)
   --avoid REGEX     with --clicks: click nothing whose text or name matches; "none" avoids
                     nothing (delete, log out, quit, reset, stop and others)

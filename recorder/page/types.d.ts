@@ -120,6 +120,8 @@ export interface TraceEvent {
   after: TraceEvent[];
   /** The number of the document of which it is a parse step. */
   parsed?: number;
+  /** The number of the timeout that runs in it. */
+  timeout?: number;
   /** The page whose parser waits for it. */
   blocks?: Page;
   /** The page whose load event waits for it. */

@@ -78,8 +78,8 @@ class ThingWords {
   }
 
   /**
-   * The place to look at for an access: its own, or the place of its action if the access is in a library and the action is in the page's own code. What the
-   * browser does at an element, as for a user's act, has the place of the element.
+   * The place to look at for an access: its own; if that is in a library, the page's own call that led to it, or the place of its action in the page's own
+   * code. What the browser does at an element, as for a user's act, has the place of the element.
    * @param {number} line
    * @param {number} number of the action
    * @returns {Place|null}
@@ -87,7 +87,8 @@ class ThingWords {
   placeOfAccess(line, number) {
     const action = this.actions.list[number];
     const { line: begin, words: [word, , element] } = this.actions.list[action.first];
-    const known = /** @type {Place[]} */ ([line, action.line, begin].map((one) => this.placeOfLine(one)).filter(Boolean));
+    const caller = this.names.callers?.[line];
+    const known = /** @type {Place[]} */ ([this.placeOfLine(line), caller, this.placeOfLine(action.line), this.placeOfLine(begin)].filter(Boolean));
     return known.find((place) => !this.isOfLibrary(place)) || known[0] || (AT_ELEMENT.has(word) && this.placeOfElement(element)) || null;
   }
 

@@ -75,6 +75,11 @@ interface Asked {
   way?: Place;
 }
 
+export interface TimeoutFacts extends Asked {
+  /** If jQuery's `ready` set it: where the page passed the callback. */
+  ready?: Place;
+}
+
 export interface HandlerFacts extends Asked {
   type?: string;
   target?: number;
@@ -115,7 +120,7 @@ export interface NamesOfTrace {
   documents: { [number: string]: { address?: string } };
   elements: { [number: string]: ElementFacts };
   handlers: { [number: string]: HandlerFacts };
-  timeouts: { [number: string]: Asked };
+  timeouts: { [number: string]: TimeoutFacts };
   intervals: { [number: string]: IntervalFacts };
   requests: { [number: string]: RequestFacts };
   dispatches: { [number: string]: DispatchFacts };
@@ -125,6 +130,7 @@ export interface NamesOfTrace {
   /** By the number of the line. */
   places: { [line: string]: Place };
   ways?: { [line: string]: Place };
+  callers?: { [line: string]: Place };
   kept?: { [line: string]: boolean };
   typed?: { [line: string]: boolean };
 }

@@ -23,6 +23,9 @@ const LONGEST_NOTE = 2000;
 /** @param {Act} act */
 const longestSearch = (act) => ('given' in act && act.given?.timeout) || LONGEST_SEARCH;
 
+/** @param {number} count @param {string} what */
+const counted = (count, what) => `${count} ${what}${count === 1 ? '' : 's'}`;
+
 /** Made by recorder.js for the acts of one recording. */
 class Acts {
   /**
@@ -38,6 +41,8 @@ class Acts {
     this.tried = new Set();
     /** @type {{act: Act, why: string}[]} */
     this.notDone = [];
+    /** @type {Act[]} */
+    this.done = [];
     this.hasClicked = false;
   }
 
@@ -93,8 +98,11 @@ class Acts {
       printError(`  click at ${shown(label)}`);
       return this.around(user, numberOfClick(), act);
     };
-    await user.clickAround(clicks, seed, click, avoided);
+    const countSteps = () => (this.session.responses?.steps.notFollowed || 0) + this.session.windows;
+    await user.clickAround(clicks, seed, click, { avoided, countSteps });
     this.hasClicked = true;
+    const { length } = user.picks;
+    if (length < clicks) printError(`  nothing ${length ? 'else ' : ''}to click: ${length} of ${clicks} clicks were done (--do STEP acts at any element)`);
   }
 
   /**
@@ -114,6 +122,7 @@ class Acts {
     if (act.kind === 'spot') this.session.isDismissing = true;
     const outcome = await this.around(user, act.number, () => user.act(act));
     if (!outcome.isDone) this.notDone.push({ act, why: outcome.why ?? await this.whyNoTarget(user, act) });
+    else this.done.push(act);
     this.tried.add(act.number);
     return outcome.isDone;
   }
@@ -157,7 +166,17 @@ class Acts {
     await within(call.catch(() => {}), LONGEST_NOTE, undefined); // the page has gone, or does not answer
   }
 
-  // ---- what was not done
+  // ---- what was done, and what was not
+
+  /** What the user did, in words. */
+  doneInWords() {
+    const all = [...this.done, ...this.user?.picks || []];
+    if (!all.length) return 'nothing clicked or typed (--clicks N, --do STEP)';
+    const isTyped = (/** @type {Step|SpotAct} */ act) => (act.kind === 'spot' ? act.isText : act.kind === 'type' || act.kind === 'change');
+    const isClick = (/** @type {Step|SpotAct} */ act) => act.kind === 'spot' || act.kind === 'click' || act.kind === 'doubleClick';
+    const [clicks, texts, others] = [all.filter(isClick), all.filter(isTyped), all.filter((act) => !isClick(act) && !isTyped(act))].map(({ length }) => length);
+    return [counted(clicks, 'click'), texts ? `${counted(texts, 'text')} typed` : 'nothing typed', ...others ? [counted(others, 'other step')] : []].join(', ');
+  }
 
   /** The steps that could not be done, as lines. */
   failures() {

@@ -69,7 +69,7 @@ test('a page of more steps than the analyzer takes', LIMIT, async () => {
   const { status, stdout, stderr } = await pageOf('many-steps.html');
   assert.strictEqual(status, 1, stderr);
   assert.match(stderr, /^er_page: left out, over the limits of the analyzer: "steps", with \d{5} accesses and \d{8} pairs$/m);
-  assert.match(stdout, /^\S*many-steps\.html:\d+ {2}`word` may change before or after it is written/m);
+  assert.match(stdout, /^\S*many-steps\.html:\d+ {2}`word` keeps what is written last, by the timeout late or by the timeout soon/m);
   assert.match(read('many-steps.races/page.html'), /Left out, since they are over the limits of the analyzer: the accesses to .*steps/);
   assert.match(read('many-steps.races/page.report'), /^report 1$/m);
 });

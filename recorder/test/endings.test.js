@@ -217,7 +217,7 @@ test('from a page to its races', { timeout: 150000 }, async () => {
   for (const ending of ['trace', 'names.json', 'report', 'html']) assert.ok(fs.existsSync(path.join(folder, 'shop.races', `page.${ending}`)), ending);
   const clean = await run('er_page', [path.join(PAGES, 'no-race.html')], own);
   assert.strictEqual(clean.status, 0, clean.stderr);
-  assert.match(clean.stdout, /^No race\.$/m);
+  assert.match(clean.stdout, /^No race\. Done in the page: nothing clicked or typed \(--clicks N, --do STEP\)\.$/m);
   await assertNothingLeft(own);
 });
 

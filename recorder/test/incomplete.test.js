@@ -25,6 +25,8 @@ const ANSWERS = {
   '/slow': { body: `${BUTTON}<script src="/slow.js"></script>` },
   '/harm': { body: `<!doctype html><title>h</title><button onclick="throw new Error('answer ' + confirm('?'))">Search the catalog</button>${HARM}` },
   '/once': { body: BUTTON },
+  '/links': { body: '<!doctype html><title>l</title><a href="/gone">away</a> <a href="/gone">away too</a><div style="height: 3000px"></div><button>far down</button>' },
+  '/text': { body: '<!doctype html><title>t</title><p>text</p>' },
   '/code.js': { body: 'var seen = 2;', headers: { 'content-type': 'text/javascript' } },
   '/favicon.ico': { status: 404, body: '' },
   '/user': { body: BUTTON },
@@ -81,7 +83,7 @@ test('a step that could not be done fails the run, and all files are written', L
   assert.strictEqual(status, 6, stderr);
   assert.match(stderr, /^er_record: not done: step 2 of --do, click:#typo: no element matches the selector, after 5 s$/m);
   assert.match(stderr, /^er_record: not done: step 3 of --do, type:#hidden:x: the element has no size/m);
-  assert.match(stdout, /^No race in what was recorded, which is not complete\.$/m);
+  assert.match(stdout, /^No race in what was recorded, which is not complete\. Done in the page: 1 click, nothing typed\.$/m);
   assert.deepStrictEqual(filesOf('button'), ['page.html', 'page.names.json', 'page.report', 'page.trace']);
 });
 
@@ -100,7 +102,7 @@ test('--keep-going makes it a warning', LIMIT, async () => {
   const { status, stdout, stderr } = await call('er_page', `${origin}/button`, '--do', 'click:li:bad(', '--keep-going');
   assert.strictEqual(status, 0, stderr);
   assert.match(stderr, /^ {2}not done: step 1 of --do, click:li:bad\(: the selector is not valid$/m);
-  assert.match(stdout, /^No race\.$/m);
+  assert.match(stdout, /^No race\. Done in the page: nothing clicked or typed/m);
 });
 
 test('a step waits for a target that a timer makes', LIMIT, async () => {
@@ -114,7 +116,7 @@ test('a recording whose time was over is not complete', LIMIT, async () => {
   const { status, stdout, stderr } = await call('er_page', `${origin}/hangs`, '--time', '3', '--do', 'click:#now', '--clicks', '2');
   assert.strictEqual(status, 4, stderr);
   assert.match(stderr, /^er_record: the recording is not complete: the time of 3 s was over before the page was quiet$/m);
-  assert.match(stdout, /^No race in what was recorded, which is not complete\.$/m);
+  assert.match(stdout, /^No race in what was recorded, which is not complete\. Done in the page: \d clicks?, nothing typed\.$/m);
   const races = await call('er_page', `${origin}/races`, '--time', '3');
   assert.strictEqual(races.status, 1, races.stderr);
   assert.match(races.stderr, /the recording is not complete/);
@@ -147,6 +149,22 @@ test('clicks avoid what does harm, are named, and their dialogs are dismissed', 
   const all = await call('er_record', `${origin}/harm`, path.join(folder, 'harm.trace'), '--clicks', '8', '--avoid', 'search');
   assert.match(all.stderr, /error: Error: harmed/);
   assert.ok(!/click at button "Search/.test(all.stderr), all.stderr);
+});
+
+test('clicks prefer what stays in the page, scroll to it, and follow a link that leaves once', LIMIT, async () => {
+  const far = await call('er_record', `${origin}/links`, path.join(folder, 'links.trace'), '--clicks', '2');
+  assert.strictEqual([...far.stderr.matchAll(/^ {2}click at button "far down"$/gm)].length, 2, far.stderr);
+  const left = await call('er_page', `${origin}/links`, '--clicks', '3', '--avoid', 'far');
+  assert.strictEqual([...left.stderr.matchAll(/^ {2}click at a "away/gm)].length, 1, left.stderr);
+  assert.match(left.stderr, /^ {2}nothing else to click: 1 of 3 clicks were done \(--do STEP acts at any element\)$/m);
+  assert.match(left.stdout, /^No race\. Done in the page: 1 click, nothing typed\.$/m);
+});
+
+test('a page without anything to click', LIMIT, async () => {
+  const { status, stdout, stderr } = await call('er_page', `${origin}/text`, '--clicks', '5');
+  assert.strictEqual(status, 0, stderr);
+  assert.match(stderr, /^ {2}nothing to click: 0 of 5 clicks were done/m);
+  assert.match(stdout, /^No race\. Done in the page: nothing clicked or typed \(--clicks N, --do STEP\)\.$/m);
 });
 
 test('a link that is valid once', LIMIT, async () => {

@@ -41,3 +41,20 @@ test('no file is a library', LIMIT, async () => {
     assert.ok(actions.includes(due), `${due}\n${actions.join('\n')}`);
   }
 });
+
+test('what a library does has the page\'s own call that led to it, however deep', LIMIT, async () => {
+  const trace = await recordPage(browser, 'fills-by-library.html', []);
+  const names = JSON.parse(trace.namesOf(libraries).toJson({}));
+  const { lines } = new Actions(trace.text);
+  const writes = Object.keys(names.callers).filter((line) => / class$/.test(lines[Number(line) - 1]));
+  /** @param {import('../races/types').Place} place */
+  const placeOf = ([file, line]) => `${names.files[file].address.replace(/^.*\//, '')}:${line}`;
+  assert.deepStrictEqual(writes.map((line) => [placeOf(names.callers[line]), placeOf(names.places[line])]),
+    [['fills-by-library.html:9', 'jquery-fills.js:2'], ['fills-by-library.html:6', 'jquery-fills.js:2']], 'the place that names contain stays');
+});
+
+test('a timeout of jQuery\'s ready has the place where the page passed the callback', LIMIT, async () => {
+  const trace = await recordPage(browser, 'ready-late.html', CLICK);
+  const { timeouts } = JSON.parse(trace.namesOf(libraries).toJson({}));
+  assert.deepStrictEqual(Object.values(timeouts).flatMap(({ ready }) => (ready ? [ready[1]] : [])), [7], 'the call of ready in the page\'s own file');
+});

@@ -9,7 +9,7 @@ const { BEGINS, wordOf } = require('./intake.js');
  * @typedef {import('./intake.js').Entry & {isKept?: boolean, why?: string}} Entry
  *   `isKept` if a write that left the old value is written as a read; `why` is, in a whole recording, what a rule says of the access: `own`
  *   (a read after a write of its action), `first` (of the action that made the thing), `same` (a write that leaves the old value)
- * @typedef {{action: number, mode: string, place?: string, found?: string, isKept: boolean}} Access
+ * @typedef {{action: number, mode: string, place?: string, found?: string, stack?: string, isKept: boolean}} Access
  * @typedef {{location: string, isOwn: boolean, accesses: Access[]}} Variable
  * @typedef {(place: string|undefined) => boolean} IsLibrary whether a place is in a library
  */
@@ -60,7 +60,7 @@ class Accesses {
    * Whether an entry is one of these.
    * @param {Entry} entry
    */
-  take({ text, place, found }) {
+  take({ text, place, found, stack }) {
     const word = wordOf(text);
     if (word === 'all' || word === 'same') return true;
     if (word === 'at') {
@@ -70,7 +70,7 @@ class Accesses {
     }
     if (word !== 'in') return false;
     const [, action, mode, number] = text.split(' ');
-    this.variables.get(number)?.accesses.push({ action: Number(action), mode: mode === 'k' ? 'r' : mode, place, found, isKept: mode === 'k' });
+    this.variables.get(number)?.accesses.push({ action: Number(action), mode: mode === 'k' ? 'r' : mode, place, found, stack, isKept: mode === 'k' });
     return true;
   }
 

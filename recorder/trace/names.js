@@ -14,7 +14,7 @@ const { namedFile } = require('./named-files.js');
 /**
  * @typedef {[file: number, line: number, column: number]} Place
  * @typedef {import('./log/facts.js').Fact} Fact
- * @typedef {Partial<Omit<Fact, 'kind'|'number'>> & {place?: Place, way?: Place}} Facts what is known of a number
+ * @typedef {Partial<Omit<Fact, 'kind'|'number'|'ready'>> & {place?: Place, way?: Place, ready?: Place}} Facts what is known of a number
  * @typedef {{[number: string]: Facts}} List by the number
  * @typedef {{made?: string, name?: string, scope?: string, text?: string, place?: Place, module?: string, field?: number, windowOf?: number}} ObjectFacts
  * @typedef {{own?: Place, way?: Place}} PlacesOfStack
@@ -60,6 +60,11 @@ class Names {
      * @type {{[line: string]: Place}}
      */
     this.ways = table();
+    /**
+     * The page's own call that led to an access in a library, by the line of the access.
+     * @type {{[line: string]: Place}}
+     */
+    this.callers = table();
     /** @type {Map<string, string[]>} */
     this.stacks = new Map();
     /** @type {Map<string|undefined, PlacesOfStack>} */
@@ -89,12 +94,21 @@ class Names {
    * Takes a fact of the log.
    * @param {Fact} fact
    */
-  take({ kind, number, ...facts }) {
+  take({ kind, number, ready, ...facts }) {
     const list = LISTS.get(kind);
     if (kind === 'object') this.told.set(number, facts);
     else if (kind === 'written') this.lines.written.set(String(number), facts.value || '');
     else if (kind === 'stack') this.stacks.set(String(number), (facts.places || '').split('\n'));
-    else if (list) Object.assign(this.entry(list, String(number)), facts);
+    else if (list) Object.assign(this.entry(list, String(number)), facts, this.readyAt(ready));
+  }
+
+  /**
+   * Where the page passed jQuery the callback of one of its timeouts.
+   * @param {string|undefined} ready the place, as the log has it
+   */
+  readyAt(ready) {
+    const at = this.resolve(ready);
+    return at ? { ready: at } : {};
   }
 
   /**
@@ -167,7 +181,9 @@ class Names {
       const words = text.split(' ');
       this.lines.take(k + 2, record);
       if (words[1] === 'var') this.addObject(Number(words[2]));
-      const { own, way } = this.placesOfStack(stack);
+      const isAccess = text[1] === ' ';
+      if (isAccess && stack) this.addCaller(k + 2, stack);
+      const { own, way } = this.placesOfStack(isAccess ? undefined : stack);
       const known = own || this.resolve(place) || this.placeOfBegin(words);
       const at = known || (words[0] === 'parse' && this.lists.elements[words[2]]?.place);
       if (at) this.addPlace(k + 2, words, at, way);
@@ -186,6 +202,16 @@ class Names {
     if (way) this.ways[line] = way;
     const list = DECLARES.get(word);
     if (list) Object.assign(this.entry(list, number), { place }, way && { way });
+  }
+
+  /**
+   * The first place of the stack of an access is that of the page's own call.
+   * @param {number} line @param {string} stack
+   */
+  addCaller(line, stack) {
+    const [first] = this.stacks.get(stack) || [];
+    const place = this.resolve(first);
+    if (place) this.callers[line] = place;
   }
 
   /** @param {Place} place */
@@ -252,7 +278,7 @@ class Names {
     const used = new Map();
     /** @param {Place} place */
     const note = ([file, line]) => used.set(file, (used.get(file) || new Set()).add(line));
-    [...Object.values(this.places), ...Object.values(this.ways), ...Object.values(this.objects).flatMap(({ place }) => (place ? [place] : []))].forEach(note);
+    [...Object.values(this.places), ...Object.values(this.ways), ...Object.values(this.callers), ...Object.values(this.objects).flatMap(({ place }) => (place ? [place] : []))].forEach(note);
     return this.sources.files.map((file, k) => namedFile(file, used.get(k), used.has(k) && this.foreignness([k]) > 0));
   }
 
@@ -270,7 +296,7 @@ class Names {
    */
   facts(files = this.sources.files.map(({ address, text }) => ({ address: fileAddress(address), text }))) {
     const functions = Object.fromEntries(Object.entries(this.functions).filter(([, name]) => name));
-    return { files, ...this.lists, objects: this.objects, functions, ...this.lines.lists(), ways: this.ways, places: this.places };
+    return { files, ...this.lists, objects: this.objects, functions, ...this.lines.lists(), ways: this.ways, callers: this.callers, places: this.places };
   }
 }
 

@@ -46,40 +46,18 @@ function findTarget(where, inside) {
 }
 
 /**
- * One of the things in view that a user may click, by the seed; those that react come first.
+ * One of the things that a user may click, by the seed: first what reacts in view, then what is out of view, which is scrolled to; links to other pages last.
  * @param {number} seed
  * @param {string|null} avoided the source of a regular expression: what has it in its text or in its names is not clicked
- * @returns {Spot & {label: string}|null}
+ * @param {string[]} left the addresses of links and the positions of what led to another page: it is not clicked again
+ * @returns {Spot & {label: string, link: string}|null}
  */
-function pickTarget(seed, avoided) {
+function pickTarget(seed, avoided, left) {
   const SELECTOR = 'a[href],a[onclick],button,input,select,textarea,label,[onclick],[role=button],[role=tab],summary,[tabindex],li';
   const REACTS = 'button,input,select,textarea,summary,label,[onclick],[role],a[href^="#"],a[href^="javascript:"]';
-  const spots = [...document.querySelectorAll(SELECTOR)].filter((element) => /** @type {HTMLInputElement} */ (element).type !== 'file').flatMap((element) => {
-    const box = element.getBoundingClientRect();
-    const x = box.left + Math.min(box.width / 2, 60);
-    const y = box.top + Math.min(box.height / 2, 30);
-    const isInView = box.width >= 4 && box.height >= 4 && x >= 0 && y >= 0 && x < innerWidth && y < innerHeight;
-    const hit = isInView && document.elementFromPoint(x, y);
-    return hit && (hit === element || element.contains(hit)) ? [{ element, x, y }] : [];
-  });
-  /** @param {Element} one */
-  const namesOf = (one) => ['id', 'name', 'title', 'aria-label', 'alt', 'value'].map((name) => one.getAttribute(name) || '');
-  /**
-   * All that says what a click at an element does, also as separate words: "log out" of `logOut` and of `log-out`.
-   * @param {Element} element
-   */
-  const wordsOf = (element) => {
-    const around = [element, ...element.querySelectorAll('*')].slice(0, 100);
-    for (let one = element.parentElement; one; one = one.parentElement) if (one.matches('a,button,label,[onclick],[role=button]')) around.push(one);
-    const text = [element.textContent || '', ...around.flatMap(namesOf)].join('\n');
-    return `${text}\n${text.replace(/([a-z])([A-Z])/g, '$1 $2').replace(/[_-]+/g, ' ')}`;
-  };
-  const avoid = avoided === null ? null : new RegExp(avoided, 'i');
-  const harmless = spots.filter(({ element }) => !avoid || !avoid.test(wordsOf(element)));
-  const first = harmless.filter(({ element }) => element.matches(REACTS));
-  const pool = first.length ? first : harmless;
-  if (!pool.length) return null;
-  const { element, x, y } = pool[((seed * 1664525 + 1013904223) >>> 0) % pool.length];
+  const MOST_SCROLLED = 20;
+  const MOST_LOOKED_AT = 5000;
+  const AT_ONCE = /** @type {ScrollBehavior} */ (/** @type {string} */ ('instant'));
   /**
    * By the next id above it, and by its position alone: a script may have set the id.
    * @param {Element|null} one
@@ -92,12 +70,70 @@ function pickTarget(seed, avoided) {
     const same = [...one.parentElement.children].filter((other) => other.localName === one.localName);
     return `${pathOf(one.parentElement, isById)} > ${CSS.escape(one.localName)}:nth-of-type(${same.indexOf(one) + 1})`;
   };
-  const hit = /** @type {Element} */ (document.elementFromPoint(x, y));
-  const { left, top } = hit.getBoundingClientRect();
+  /** @param {Element} element */
+  const spotOf = (element) => {
+    const box = element.getBoundingClientRect();
+    const x = box.left + Math.min(box.width / 2, 60);
+    const y = box.top + Math.min(box.height / 2, 30);
+    const isInView = box.width >= 4 && box.height >= 4 && x >= 0 && y >= 0 && x < innerWidth && y < innerHeight;
+    const hit = isInView && document.elementFromPoint(x, y);
+    return hit && (hit === element || element.contains(hit)) ? { element, hit, x, y } : null;
+  };
+  /** @param {Element} one */
+  const namesOf = (one) => ['id', 'name', 'title', 'aria-label', 'alt', 'value'].map((name) => one.getAttribute(name) || '');
+  /**
+   * All that says what a click at an element does, also as separate words: "log out" of `logOut` and of `log-out`.
+   * @param {Element} element
+   */
+  const wordsOf = (element) => {
+    const around = [element, ...element.querySelectorAll('*')].slice(0, 100);
+    for (let one = element.parentElement; one; one = one.parentElement) if (one.matches('a,button,label,[onclick],[role=button]')) around.push(one);
+    const text = [element.textContent || '', ...around.flatMap(namesOf)].join('\n');
+    return `${text}\n${text.replace(/([a-z])([A-Z])/g, '$1 $2').replace(/[_-]+/g, ' ')}`;
+  };
+  /** @param {Element} hit */
+  const linkOf = (hit) => hit.closest('a[href]')?.getAttribute('href') || '';
+  /** @param {Element} hit */
+  const leads = (hit) => linkOf(hit) !== '' && !/^(?:#|javascript:)/i.test(linkOf(hit));
+  const avoid = avoided === null ? null : new RegExp(avoided, 'i');
+  /** @param {Element} element */
+  const isAllowed = (element) => /** @type {HTMLInputElement} */ (element).type !== 'file' && (!avoid || !avoid.test(wordsOf(element)));
+  /** @param {Element} hit */
+  const isNew = (hit) => !left.length || !(left.includes(linkOf(hit)) || left.includes(pathOf(hit, false)));
+  /** @param {Element} element */
+  const hasPointer = (element) => getComputedStyle(element).cursor === 'pointer';
+  /** Elements without a handler in their tag that show the pointer of a hand. */
+  const handled = () => [...document.querySelectorAll('body *')].slice(0, MOST_LOOKED_AT).filter((one) => hasPointer(one) && !(one.parentElement && hasPointer(one.parentElement)));
+  /** @param {Element[]} elements @param {(hit: Element) => boolean} isWanted */
+  const inView = (elements, isWanted = isNew) => {
+    const spots = elements.flatMap((one) => spotOf(one) || []).filter(({ element, hit }) => isAllowed(element) && isWanted(hit));
+    return spots.length ? spots[((seed * 1664525 + 1013904223) >>> 0) % spots.length] : null;
+  };
+  /** @param {Element[]} elements @param {(hit: Element) => boolean} isWanted */
+  const outOfView = (elements, isWanted = isNew) => {
+    const some = elements.filter((one) => one.getClientRects().length && isAllowed(one));
+    for (let k = 0; k < Math.min(some.length, MOST_SCROLLED); k++) {
+      const element = some[(((seed * 1664525 + 1013904223) >>> 0) + k) % some.length];
+      element.scrollIntoView({ block: 'center', inline: 'nearest', behavior: AT_ONCE });
+      const spot = spotOf(element);
+      if (spot && isWanted(spot.hit)) return spot;
+    }
+    return null;
+  };
+  const all = [...document.querySelectorAll(SELECTOR)];
+  const reacting = all.filter((element) => element.matches(REACTS));
+  const more = () => [...all, ...handled()];
+  /** @param {Element} hit */
+  const stays = (hit) => isNew(hit) && !leads(hit);
+  const found = inView(reacting) || inView(more(), stays) || outOfView(reacting) || outOfView(more(), stays) || inView(all) || outOfView(all);
+  if (!found) return null;
+  const { element, hit, x, y } = found;
+  const { left: from, top } = hit.getBoundingClientRect();
   const isText = element.matches('textarea,input:not([type]),input[type=text],input[type=search]');
   const [text = ''] = [element.getAttribute('aria-label') || '', element.textContent || '', ...namesOf(element)].map((one) => one.replace(/\s+/g, ' ').trim()).filter((one) => one);
   const label = element.localName + (text ? ` "${text.slice(0, 40)}"` : '');
-  return { x, y, isText, label, what: element.localName + (element.id ? `#${element.id}` : ''), target: pathOf(hit, true), place: pathOf(hit, false), inside: { x: x - left, y: y - top } };
+  const what = element.localName + (element.id ? `#${element.id}` : '');
+  return { x, y, isText, label, link: leads(hit) ? linkOf(hit) : pathOf(hit, false), what, target: pathOf(hit, true), place: pathOf(hit, false), inside: { x: x - from, y: y - top } };
 }
 
 module.exports = { findTarget, pickTarget };

@@ -106,6 +106,18 @@ test('what looks like it: a cache, which each side fills', async () => {
   assert.ok(!(await patternsAt(both, C, { befores: { 6: '-', 9: '-' } })).includes('undefined'));
 });
 
+test('what looks like it: an element of two with one id, and an attribute with which an element comes', async () => {
+  const added = (/** @type {Lines} */ reader) => /** @type {Lines} */ ([['parse 0 1 async'], ['parse 0 2 async'], ['parse 0 3 async'], ['exec 1'], ['w elem 0 node', WRITE, 'o'], ['exec 2'], ['w elem 0 node', ADD, 'o'], ['set 1 0'],
+    ...reader, ['r elem 0 node', USE, 'o']]);
+  assert.deepStrictEqual(await patternsAt(added([['timer 1']]), 'elem 0 node'), ['other'], 'the code that looks it up has added one itself');
+  assert.ok((await patternsAt(added([['exec 3']]), 'elem 0 node')).includes('undefined'), 'both can come later');
+  const attribute = `var ${FIRST_FIELD + 5} data-module`;
+  const made = (/** @type {Lines} */ lines) => patternsAt(scripts(lines, [[`r ${attribute}`, USE, 's1a1']]), attribute, { befores: { 5: '-', 6: '-' } });
+  assert.deepStrictEqual(await made([['new 0 5 plain'], [`w ${attribute}`, WRITE, 's1a1']]), ['other']);
+  assert.deepStrictEqual(await made([[`w ${attribute}`, WRITE, 's1a1'], ['new 0 5 plain']]), ['other'], 'it is set before the element is in the page');
+  assert.deepStrictEqual(await patternsAt([['parse 0 5 plain'], ...scripts([[`w ${attribute}`, WRITE, 's1a1']], [[`r ${attribute}`, USE, 's1a1']])], attribute, { befores: { 6: '-' } }), ['undefined']);
+});
+
 const S = 'var 3000000 type';
 /**
  * Clicks that write a property, each once.

@@ -69,7 +69,14 @@ class Log {
    * @param {import('../types').CallSite[]} calls
    */
   numberOfStack(calls) {
-    const way = wayOf(calls);
+    return this.numberOfPlace(wayOf(calls));
+  }
+
+  /**
+   * The number of a stack as a text; 0 of an empty one.
+   * @param {string} way
+   */
+  numberOfPlace(way) {
     if (!way) return 0;
     let number = this.#stacks.get(way);
     if (number === undefined) {

@@ -3,7 +3,7 @@
 import { each, keep } from '../core/lists.js';
 import { settings } from '../core/settings.js';
 import { fits, found, sliceOf, withoutLastBlanks } from '../core/strings.js';
-import { Error, Object, Reflect, apply, getOwnPropertyDescriptor, getPrototypeOf, isArray } from '../core/taken.js';
+import { Error, Map, Object, Reflect, apply, getOwnPropertyDescriptor, getPrototypeOf, isArray } from '../core/taken.js';
 
 const STACK_DEPTH = 16;
 const LIMIT = 'stackTraceLimit';
@@ -12,6 +12,8 @@ const PREPARE = 'prepareStackTrace';
 const LONGEST_WAY = 32;
 /** More than `foreignness` of any file. */
 const LEAST_TELLING = 3;
+const MOST_FILES = 1000;
+const NO_FILE = -1;
 const PAGE_ADDRESS = /^(?:https?|file|about|data|blob):/;
 const PLACE_IN_FILE = /:\d+:\d+$/;
 /**
@@ -63,6 +65,35 @@ const isOfPage = (call) => fits(PAGE_ADDRESS, addressOf(call));
 /** @param {import('../types').CallSite} call */
 const placeOfCall = (call) => `${addressOf(call)}:${apply(getLineNumber, call, [])}:${apply(getColumnNumber, call, [])}`;
 
+/** How foreign files are (`foreignness`), by their addresses; of what is no file of the page NO_FILE. @type {Map<string, number>} */
+const known = new Map();
+
+/** @param {import('../types').CallSite} call */
+function foreignnessOf(call) {
+  const address = addressOf(call);
+  let foreignness = known.get(address);
+  if (foreignness === undefined) {
+    foreignness = fits(PAGE_ADDRESS, address) ? settings.foreignness(address, settings.libraries, found) : NO_FILE;
+    if (known.size < MOST_FILES) known.set(address, foreignness);
+  }
+  return foreignness;
+}
+
+/**
+ * The page's own call that led to the running code, if that is in a library: '' if none is on the stack, null if the code is the page's own.
+ * @returns {string|null}
+ */
+function callOfLibrary() {
+  const calls = takeStack(LONGEST_WAY);
+  let isInside = false;
+  for (let k = 0; k < calls.length; k++) {
+    const foreignness = foreignnessOf(calls[k]);
+    if (foreignness === 0) return isInside ? placeOfCall(calls[k]) : null;
+    if (foreignness !== NO_FILE) isInside = true;
+  }
+  return '';
+}
+
 /**
  * The first place among calls that helps a reader most: of the page's own code, otherwise of a library's.
  * @param {import('../types').CallSite[]} calls
@@ -72,7 +103,7 @@ function ownPlace(calls) {
   let best = calls[0];
   let least = LEAST_TELLING;
   for (let k = 0; k < calls.length && least > 0; k++) {
-    const foreignness = settings.foreignness(addressOf(calls[k]), settings.libraries, found);
+    const foreignness = foreignnessOf(calls[k]);
     if (foreignness < least) {
       least = foreignness;
       best = calls[k];
@@ -106,4 +137,4 @@ function wayOf(calls) {
   return withoutLastBlanks(text);
 }
 
-export { fileOnStack, ownPlace, placeOfCall, placeOnStack, callsOfPage, wayOf };
+export { callOfLibrary, fileOnStack, ownPlace, placeOfCall, placeOnStack, callsOfPage, wayOf };

@@ -1,6 +1,7 @@
 // Properties of objects, items of arrays, keys of maps, variables of closures and windows: all that a page's code shares, in its parts.
 // The parts know each other by `this.objects`.
 
+import { Callers } from './callers.js';
 import { Collections } from './collections.js';
 import { Holder, WINDOW } from './holders.js';
 import { Kinds } from './kinds.js';
@@ -20,6 +21,7 @@ class Objects {
     this.recording = recording;
     this.kinds = new Kinds(this);
     this.objectNames = new ObjectNames(this);
+    this.callers = new Callers(recording);
     this.variables = new Variables(this);
     this.madeElements = new MadeElements(this);
     this.trees = new Trees(this);

@@ -50,6 +50,7 @@ class Trees {
     this.recording = objects.recording;
     this.kinds = objects.kinds;
     this.variables = objects.variables;
+    this.callers = objects.callers;
     this.madeElements = objects.madeElements;
     /**
      * The first page; it numbers the nodes of all.
@@ -126,8 +127,10 @@ class Trees {
    * @param {number} site
    */
   #touch(holder, name, modes, site) {
-    variableOfTree(holder, name);
-    this.variables.touchModes(holder, name, modes, site);
+    const { actions } = this.recording;
+    const { lastRead, lastWrite } = variableOfTree(holder, name);
+    const isKnown = holder.maker === actions || lastWrite === actions || (modes === 'r' && lastRead === actions);
+    this.variables.touchModes(holder, name, modes, isKnown ? site : this.callers.placeOf(site));
   }
 
   /**

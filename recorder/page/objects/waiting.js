@@ -24,6 +24,7 @@ class Waiting {
   constructor(objects) {
     this.recording = objects.recording;
     this.objectNames = objects.objectNames;
+    this.callers = objects.callers;
     this.lines = 0;
   }
 
@@ -141,7 +142,9 @@ class Waiting {
    * @param {unknown} before
    */
   #write(variable, access, site, after, before) {
-    this.recording.log.line(`in ${actionOf(access)} ${'rwkw'[modeOf(access)]} ${variable.line}`, site < 0 ? undefined : site, foundOf(modeOf(access), after, before));
+    const { callers, recording } = this;
+    const line = `in ${actionOf(access)} ${'rwkw'[modeOf(access)]} ${variable.line}`;
+    recording.log.line(line, callers.siteOf(site), foundOf(modeOf(access), after, before), callers.stackOf(site));
   }
 
   // ---- all accesses (KEEPS_ALL)
@@ -155,7 +158,7 @@ class Waiting {
    */
   keep(holder, variable, mode, site, why = '') {
     this.#declare(holder, variable);
-    this.recording.log.line(`all ${mode} ${variable.line}${why}`, site < 0 ? undefined : site);
+    this.recording.log.line(`all ${mode} ${variable.line}${why}`, this.callers.siteOf(site));
   }
 
   /**

@@ -1,9 +1,10 @@
 // jQuery's `ready`, which `$(callback)` asks for too: what a page hands to it runs after the parsing in every order. For code that comes late jQuery sets a
-// timeout in the call, and no rule puts that after the parsing.
+// timeout in the call, and no rule puts that after the parsing. A reader of the list gets the place of the page's call for each of its timeouts.
 
 import { joined } from '../core/lists.js';
 import { replaceMethod, showAs } from '../core/replacing.js';
 import { Set, WeakSet, apply, getOwnPropertyDescriptor, getPrototypeOf } from '../core/taken.js';
+import { placeOnStack } from '../log/stack.js';
 
 const LIBRARY = 'jQuery';
 /** The names by which code has it. */
@@ -62,7 +63,7 @@ class Ready {
     replaceMethod(methods, 'ready', (own) => function ready(callback) {
       if (asked.recording.isOver || typeof callback !== 'function') return apply(own, this, arguments);
       const words = joined(arguments);
-      words[0] = asked.#wrap(callback, document);
+      words[0] = asked.#wrap(callback, document, placeOnStack());
       asked.running++;
       try {
         return apply(own, this, words);
@@ -77,17 +78,30 @@ class Ready {
    * in such a call runs after its own call, and still inside the first.
    * @param {Function} callback
    * @param {Document} document for which its jQuery waits
+   * @param {string} place of the page's call
    * @returns {import('../types').Method}
    */
-  #wrap(callback, document) {
+  #wrap(callback, document, place) {
     const asked = this;
     /** @type {import('../types').Method} */
     const run = function run() {
-      if (asked.running === 0 && document === asked.page.document) asked.#comeAfterParsing();
+      if (asked.running === 0 && document === asked.page.document) {
+        asked.#tellPlace(place);
+        asked.#comeAfterParsing();
+      }
       return apply(callback, this, arguments);
     };
     if (!this.#isProxy(callback)) showAs(run, callback);
     return run;
+  }
+
+  /**
+   * The timeout that runs a callback is one of jQuery's.
+   * @param {string} place where the page passed the callback
+   */
+  #tellPlace(place) {
+    const { timeout } = this.recording.running;
+    if (!this.recording.isOver && timeout !== undefined && place) this.recording.log.name('timeout', timeout, { ready: place });
   }
 
   /** A timeout that runs such a callback is jQuery's own; another event is the page's, or has its order by a rule. */

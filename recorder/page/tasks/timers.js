@@ -109,14 +109,16 @@ class Timers {
    * @param {TraceEvent|null} asker
    * @param {Function} callback
    * @param {any[]} words whatever the page passes
-   * @param {{place?: InQueue|null, nesting?: number}} more `place` of a callback in a queue, `nesting`: how deep a timer is nested
+   * @param {{place?: InQueue|null, nesting?: number, timeout?: number}} more `place` of a callback in a queue, `nesting`: how deep a timer is nested, the
+   *   number of a timeout
    */
-  #run(line, kind, asker, callback, words, { place = null, nesting = 0 }) {
+  #run(line, kind, asker, callback, words, { place = null, nesting = 0, timeout }) {
     const { recording, page } = this;
     if (recording.isOver) return settings.standsStill ? undefined : apply(callback, page.window, words);
     recording.startTask();
     recording.nesting = nesting;
     recording.begin(line, kind, undefined, [asker]);
+    recording.running.timeout = timeout;
     if (place?.before) {
       page.joins.here(place.before.ends, place.why);
       place.before = null;
@@ -149,7 +151,7 @@ class Timers {
       const hold = steering.asks('set');
       const callable = timers.#callable(callback);
       const asker = recording.running;
-      const run = steering.limited('set', () => timers.#run(`timer ${timeout}`, 'timer', isKnown ? asker : null, callable, words, { nesting }));
+      const run = steering.limited('set', () => timers.#run(`timer ${timeout}`, 'timer', isKnown ? asker : null, callable, words, { nesting, timeout }));
       return steering.note(hold, window, 'timers', apply(native, window, [steering.callback(hold, run, (again) => apply(native, window, [again, 0])), delay]));
     });
   }

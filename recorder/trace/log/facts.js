@@ -8,7 +8,7 @@ const { withoutCommands } = require('../../common/shown.js');
  * What is known of a number: its kind says which members it has.
  * @typedef {{kind: string, number: number, tag?: string, id?: string, field?: string, source?: string, loads?: string, document?: number, standsFor?: number,
  *   message?: number, why?: string, address?: string, frame?: number, type?: string, target?: number, function?: string, isEmpty?: boolean, method?: string,
- *   url?: string, of?: number, act?: number, site?: number, made?: string, name?: string, value?: string, places?: string}} Fact
+ *   url?: string, of?: number, act?: number, site?: number, made?: string, name?: string, value?: string, places?: string, ready?: string}} Fact
  * @typedef {(value: unknown) => unknown} Reader gives the value as it is taken, or undefined if it is none
  */
 
@@ -57,6 +57,8 @@ const flag = (value) => (typeof value === 'boolean' ? value : undefined);
 const digest = (value) => (typeof value === 'string' && VALUE.test(value) ? value : undefined);
 /** @type {Reader} */
 const places = (value) => (typeof value === 'string' && value.length <= LONGEST_STACK && PLACES.test(value) ? value : undefined);
+/** @type {Reader} */
+const place = (value) => (typeof value === 'string' && !value.includes('\n') ? places(value) : undefined);
 /**
  * The number of a place in marked code, or -1.
  * @type {Reader}
@@ -71,7 +73,7 @@ const KINDS = new Map(Object.entries({
   element: { tag: text, id: raw, field: text, source: raw, loads: address, document: number, standsFor: number, message: number, why },
   document: { address, frame: number },
   handler: { type: text, target: number, function: text, isEmpty: flag },
-  timeout: { function: text },
+  timeout: { function: text, ready: place },
   interval: { why, function: text },
   request: { method: text, address, url: address, of: number },
   dispatch: { type: text, act: number },
@@ -119,10 +121,10 @@ class Facts {
    * Whether a fact is about something that the log has.
    * @param {Fact} fact
    */
-  isTaken({ kind, number: own, standsFor, site: place, places: way }) {
+  isTaken({ kind, number: own, standsFor, site: at, places: way }) {
     if (kind === 'stack' && way === undefined) return false;
     if (kind === 'written') return true;
-    if (place !== undefined && place >= this.countSites()) return false;
+    if (at !== undefined && at >= this.countSites()) return false;
     return standsFor === undefined || this.mayStandFor(own, standsFor);
   }
 

@@ -1,0 +1,82 @@
+// The page's own code that called a library which touches the page's tree. An access has the place of its mark; a reader wants the call that led to it.
+
+import { Map } from '../core/taken.js';
+import { callOfLibrary } from '../log/stack.js';
+
+/** So many calls are looked for in an action, and for a site: a stack costs as much as hundreds of accesses. */
+const MOST_OF_ACTION = 40;
+const MOST_OF_SITE = 200;
+/** So many different ones are known. */
+const MOST_KNOWN = 20000;
+/** Numbers of places with a call are below -1, which is no place. */
+const FIRST = -2;
+
+class Callers {
+  /** @param {import('../types').Recording} recording */
+  constructor(recording) {
+    this.recording = recording;
+    /** @type {Map<number, number>} by site, how many calls are still looked for: none for one in the page's own code */
+    this.left = new Map();
+    /** @type {{site: number, stack: number}[]} */
+    this.known = [];
+    /** @type {Map<string, number>} the numbers of these, by site and place of the call */
+    this.numbers = new Map();
+    this.action = 0;
+    this.count = 0;
+  }
+
+  /**
+   * A site, or the number of a site with the page's own call that led to it.
+   * @param {number} site
+   */
+  placeOf(site) {
+    const left = this.left.get(site) ?? MOST_OF_SITE;
+    if (site < 0 || left === 0 || !this.#isWanted()) return site;
+    const place = callOfLibrary();
+    this.left.set(site, place === null ? 0 : left - 1);
+    return place ? this.#numberOf(site, place) : site;
+  }
+
+  #isWanted() {
+    const { actions } = this.recording;
+    if (this.action !== actions) {
+      this.action = actions;
+      this.count = 0;
+    }
+    this.count++;
+    return this.count <= MOST_OF_ACTION;
+  }
+
+  /**
+   * @param {number} site
+   * @param {string} place of the call
+   */
+  #numberOf(site, place) {
+    const key = `${site} ${place}`;
+    const known = this.numbers.get(key);
+    if (known !== undefined) return known;
+    if (this.known.length >= MOST_KNOWN) return site;
+    const number = FIRST - this.known.length;
+    this.known[this.known.length] = { site, stack: this.recording.log.numberOfPlace(place) };
+    this.numbers.set(key, number);
+    return number;
+  }
+
+  /**
+   * The place of an access, for its line.
+   * @param {number} site as `placeOf` gives it
+   */
+  siteOf(site) {
+    return site <= FIRST ? this.known[FIRST - site].site : site < 0 ? undefined : site;
+  }
+
+  /**
+   * The number of the stack of an access, for its line; 0 if the page's own code makes it.
+   * @param {number} site as `placeOf` gives it
+   */
+  stackOf(site) {
+    return site <= FIRST ? this.known[FIRST - site].stack : 0;
+  }
+}
+
+export { Callers };
