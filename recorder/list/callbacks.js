@@ -183,13 +183,13 @@ class Callbacks {
   }
 
   /**
-   * What a handler hears of, as of a load: a request, or an element with a file.
+   * What a handler hears of, as of a load: a request, or an element with a file; where two sides are told apart, at any event of such an element.
    * @param {Action} action
    */
   ofReported({ dispatch }) {
     const [word, , number, type] = dispatch?.words || [];
     if (word === 'reply') return ` of ${this.request(number)}`;
-    const isOfFile = word === 'eload' || (AT_FILE.has(type) && (word === 'fire' || word === 'inline'));
+    const isOfFile = word === 'eload' || ((this.words.isApart || AT_FILE.has(type)) && (word === 'fire' || word === 'inline'));
     const file = isOfFile ? this.elements.fileOf(number) : '';
     return file && ` of ${file}`;
   }

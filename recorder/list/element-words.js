@@ -22,7 +22,7 @@ class ElementWords {
   }
 
   /**
-   * An element in words, with its place if nothing else tells it apart.
+   * An element in words, with its place if nothing else tells it apart (`element` has that place itself, where two sides are told apart).
    * @param {string|number} number
    * @returns {string}
    */
@@ -30,7 +30,7 @@ class ElementWords {
     const { standsFor } = this.names.elements[number] || {};
     if (standsFor) return this.of(standsFor);
     const named = this.named(number);
-    return named === this.words.element(number) ? named + this.placeOf(number) : named;
+    return named === this.words.element(number) && !this.words.isApart ? named + this.placeOf(number) : named;
   }
 
   /**

@@ -25,6 +25,10 @@ test('by the file, the classes, or the place in the page or of the code that mad
     ['i at page.html:1', 'div.menu', 'script app.js', 'p#a', 'div made at x.js:1', 'div made at x.js:1', 'body', 'span', 'script x.js']);
 });
 
+test('where two sides are told apart, with one place', () => {
+  assert.deepStrictEqual([1, 5].map((number) => words.apart(() => elements.of(number))), ['i (page.html:1:1)', 'div (x.js:1:1)']);
+});
+
 test('beside its place an element is called without it', () => {
   assert.deepStrictEqual([1, 5, 3].map((number) => elements.named(number)), ['i', 'div', 'script app.js']);
 });

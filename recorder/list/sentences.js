@@ -40,7 +40,7 @@ const SENTENCES = {
   act: ({ sides, thing }) => `${thing}, set after ${sides[1].act || 'an act of the user'}, may be overwritten`,
   undefined: ({ thing, kind }) => `${thing} may not be ${kind === 'element' ? 'in the page' : thing.startsWith('`') ? 'defined' : 'set'} yet`,
   missed: ({ sides }) => `${eventOrActor(sides[1])} may come before its handler is registered`,
-  replies: ({ sides }) => `an older ${sides[0].reply || 'reply'} may overwrite a newer one`,
+  replies: ({ sides: [one, other] }) => `an older ${(one.reply === other.reply && one.reply) || 'reply'} may overwrite a newer one`,
   other: neutral,
   flag: ({ thing }) => `${thing} is a flag that one side sets and the other side reads`,
   counter: ({ thing }) => `${thing} is counted up by both sides`,

@@ -31,7 +31,9 @@ test('an element is not in the page yet, and a variable is not defined yet', () 
   assert.strictEqual(sentence('undefined', { kind: 'element', thing: '`#offer`' }), '`#offer` may not be in the page yet');
   assert.strictEqual(sentence('undefined', { thing: 'the class of div' }), 'The class of div may not be set yet');
   assert.strictEqual(sentence('missed'), 'DOMContentLoaded may come before its handler is registered');
-  assert.strictEqual(sentence('replies', { sides: [{ ...SIDE, reply: 'reply of a.json' }, SIDE] }), 'An older reply of a.json may overwrite a newer one');
+  const [one, other] = ['a.json', 'b.json'].map((name) => ({ ...SIDE, reply: `reply of ${name}` }));
+  assert.strictEqual(sentence('replies', { sides: [one, one] }), 'An older reply of a.json may overwrite a newer one');
+  assert.strictEqual(sentence('replies', { sides: [one, other] }), 'An older reply may overwrite a newer one');
 });
 
 test('every pattern has a sentence that starts with a capital or a name, and has no end', () => {

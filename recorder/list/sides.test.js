@@ -44,3 +44,10 @@ test('two scripts of a page without a file, and replies of two folders', async (
   const requests = { 1: { address: 'http://a/one/data.json', place: PLACE }, 2: { address: 'http://a/two/data.json', place: PLACE } };
   assert.deepStrictEqual(await actorsOf(replies, { requests }), ['reply of /one/data.json, requested at loader.js:20:5', 'reply of /two/data.json, requested at loader.js:20:5']);
 });
+
+test('handlers of two images that code made at one place', async () => {
+  const pings = ['parse 0 1 inline', 'exec 1', 'new 0 2 plain', 'new 0 3 plain', 'on 1', 'on 2', 'set 1 0', 'set 2 0', 'timer 1', 'fire 1 2 ping', 'run 1 0 1', 'w var 0 x', 'close 1', 'timer 2', 'fire 2 3 ping', 'run 2 0 2', 'w var 0 x', 'close 2'];
+  const images = { 2: { tag: 'img', source: 'a.png', place: PLACE }, 3: { tag: 'img', source: 'b.png', place: PLACE } };
+  const handlers = { 1: { type: 'ping', place: PLACE }, 2: { type: 'ping', place: PLACE } };
+  assert.deepStrictEqual(await actorsOf(pings, { elements: images, handlers, places: { 13: PLACE, 18: PLACE } }), ['ping handler of a.png, registered at loader.js:20:5', 'ping handler of b.png, registered at loader.js:20:5']);
+});
