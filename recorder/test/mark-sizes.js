@@ -79,7 +79,7 @@ function main(words) {
   const head = ['Scripts', 'Number', 'KB', 'Times as long', ...Object.keys(PARTS).map((part) => `without ${part}`), 'without all of these'];
   const table = tableOf(head, rows);
   console.log(table);
-  if (into) writeSection(into, 'Size of marks', `By \`recorder/test/mark-sizes.js\`, of the scripts that ${pages.length} pages name, each once.\n\n${table}`, 'The time of a load under the recorder');
+  if (into) writeSection(into, 'Size of marks', `By \`recorder/test/mark-sizes.js\`, of the scripts that ${pages.length} pages name, each once.\n\n${table}`, 'What a recording costs');
 }
 
 if (require.main === module) main(process.argv.slice(2));
