@@ -127,7 +127,7 @@ class LastingNames extends Keys {
    */
   kindOf(number) {
     const action = this.actions.list[this.actions.list[number].first];
-    const [word, , , c] = action.words;
+    const [word, , , c] = action.words; // of its record: `fire DISPATCH ELEMENT TYPE`, `run DISPATCH GROUP HANDLER`
     if (EVENTS.has(word)) return `event ${c}`;
     if (word === 'run') return `handler ${this.names.handlers[c]?.type || ''}`;
     return word === 'tick' ? 'timer' : word;

@@ -243,6 +243,7 @@ class Session {
     tab.on('Network.responseReceived', ({ type, frameId, response }) => {
       if (type === 'Document' && frameId === this.responses?.steps.mainFrame && !this.pageStatus) this.pageStatus = response.status;
     });
+    // the files are written all the same (recordInto in record.js), with what the page has sent
     tab.on('Inspector.targetCrashed', () => this.stop(new RecordingFault('the page crashed the browser', STATUS.failed)));
   }
 

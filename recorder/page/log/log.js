@@ -30,7 +30,7 @@ class Log {
    */
   #stacks = new Map();
   /**
-   * If it is set, each line is sent after the task that wrote it.
+   * If it is set, as in a replay (recording/steering.js), each line is sent after the task that wrote it.
    * @type {((send: () => void) => void)|null}
    */
   sendSoon = null;
@@ -43,7 +43,7 @@ class Log {
   }
 
   /**
-   * Writes a line of the trace.
+   * Writes a line of the trace. Called by `Lines` (recording/lines.js).
    * @param {string} text
    * @param {import('../types').Place} place
    * @param {string} found what an access found (values.js)

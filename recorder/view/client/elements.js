@@ -1,5 +1,6 @@
-// Makes elements. Texts of the recorded page become text nodes only. So no text of it becomes HTML (no XSS).
+// Makes elements, and long lists piece by piece. Texts of the recorded page become text nodes only. So no text of it becomes HTML (no XSS).
 
+/** Of a long list so many rows are drawn at once; "Show more" draws further ones. */
 const PIECE = 200;
 
 /**

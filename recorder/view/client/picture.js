@@ -8,6 +8,7 @@ const LANE_HEIGHT = 26;
 const LANE_LEFT = 120;
 const PICTURE_WIDTH = 1000;
 const MARGIN = 12;
+/** So many arrows are drawn at most; all actions are ticks. */
 const MOST_LINKS = 200;
 
 /** Made by races.js for the box of a race that is opened. */
