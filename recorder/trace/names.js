@@ -20,11 +20,8 @@ const { namedFile } = require('./named-files.js');
  * @typedef {{own?: Place, way?: Place}} PlacesOfStack
  * @typedef {import('./named-files.js').NamedFile} NamedFile
  * @typedef {import('./spelling.js').SpelledEntry} SpelledEntry
- */
-
-/**
- * The texts that were instrumented, as far as names need them (texts/sources.js).
- * @typedef {object} Texts
+ *
+ * @typedef {object} Texts the texts that were instrumented, as far as names need them (texts/sources.js)
  * @property {{address: string, text: string, library?: string}[]} files `library` is the name of a library that is a part of a file
  * @property {unknown[]} sites
  * @property {{addressOf: (number: number) => string}} modules

@@ -1,7 +1,6 @@
 'use strict';
-// The walk that inserts marks at global variables (page/helpers/globals.js) and at those of a module. What is marked of
-// members and closures is in the subclasses: closure-marks.js, member-marks.js, value-marks.js, window-marks.js. Reads, assignments, updates (`a++`), `typeof
-// a` of an undeclared name, functions' names, `await`, `import()`, `eval`.
+// The walk that inserts marks at global variables (page/helpers/globals.js) and at those of a module: reads, assignments, updates (`a++`), `typeof a`, functions'
+// names, `await`, `import()`, `eval`. Members and closures: the subclasses in closure-marks.js, member-marks.js, value-marks.js, window-marks.js.
 
 const { mayWait, isFunction } = require('../syntax/children.js');
 const { namesOfPattern } = require('../syntax/names.js');
