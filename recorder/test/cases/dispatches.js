@@ -213,7 +213,7 @@ exports.cases = [
   },
   {
     page: 'ready-slotted.html',
-    due: ['w #end', 'fire slot slotchange', 'run slotted', 'w items', 'on the end of parsing', 'dcl', 'run the end of parsing', 'run parsed', 'r #end', 'r items', 'w ready', 'close', 'load', 'r ready'],
+    due: ['w #end', 'fire slot slotchange', 'run slotted', 'w items', 'on the end of parsing', 'dcl', 'run the end of parsing', 'run parsed', 'r #end', 'w ready', 'close', 'load', 'r ready'],
     never: ['fire document DOMContentLoaded'],
     races: [],
   },
@@ -231,8 +231,8 @@ exports.cases = [
   },
   {
     page: 'observer-adds-image.html',
-    due: ['w #end', 'run look', 'new img image', 'close', 'dcl', 'eload img', 'w width', 'load', 'run what load waits for', 'run all', 'r width'],
-    races: ['#end'],
+    due: ['parse p plain', 'run look', 'new img image', 'close', 'dcl', 'eload img', 'w width', 'load', 'run what load waits for', 'run all', 'r width'],
+    races: [],
   },
 
   // ---- what could hold a recording up
