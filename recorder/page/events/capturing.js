@@ -1,7 +1,7 @@
 // The recorder's own listeners, which see each dispatch of a type begin before any handler of the page runs; and dispatches that no handler hears.
 // `stopPropagation` and `stopImmediatePropagation` of the page hide no event from them.
 
-import { each, valuesOf } from '../core/lists.js';
+import { each, hasItem, valuesOf } from '../core/lists.js';
 import { Set, apply } from '../core/taken.js';
 import { isThing } from '../core/things.js';
 import { FIRST_OF_MOTION } from './motions.js';
@@ -10,6 +10,9 @@ const ALWAYS_RECORDED = [
   'click', 'dblclick', 'mousedown', 'mouseup', 'keydown', 'keypress', 'keyup', 'input', 'change', 'submit', 'reset',
   'focus', 'blur', 'DOMContentLoaded', 'load', 'message', 'hashchange', 'popstate',
 ];
+
+/** The events that come next after the parsing. */
+const AFTER_PARSING = ['readystatechange', 'DOMContentLoaded'];
 
 /** `nodeType` of a shadow root. */
 const FRAGMENT = 11;
@@ -56,6 +59,7 @@ class Capturing {
     if (type === 'unhandledrejection') this.recording.tellsRejections = true;
     const first = FIRST_OF_MOTION.get(type);
     if (first) apply(listen, document, [first, (/** @type {import('./motions.js').MotionEvent} */ event) => motions.noteStart(event), true]);
+    if (hasItem(AFTER_PARSING, type)) apply(listen, window, [type, letMicrotasksRun, true]);
     apply(listen, window, [type, this.see, true]);
     if (type === 'load') apply(listen, document, [type, this.see, true]);
   }
@@ -170,6 +174,12 @@ class Capturing {
     if (isInEvent) recording.contexts.length--;
   }
 }
+
+/**
+ * As this listener returns, the browser runs the microtasks that the last parse steps queued (mutation observers, `slotchange`). So they run before the
+ * next listener begins the dispatch, as in the HTML Standard.
+ */
+const letMicrotasksRun = () => {};
 
 /**
  * Whether a target is a node or the window.

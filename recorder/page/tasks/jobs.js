@@ -179,6 +179,7 @@ class Jobs {
     const told = page.joins.tell(dispatch, others, asked.why || page.promises.whyOf(asked.v));
     if (told.length) dispatch.hasJoined = true;
     recording.begin(`run ${dispatch.number} ${told.length ? 1 : 0} ${handler}`, 'handler', undefined, joined([dispatch.beginning, asker], told));
+    recording.running.awaits = dispatch.awaits;
     recording.noteInside(dispatch);
   }
 

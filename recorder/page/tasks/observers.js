@@ -131,15 +131,18 @@ class Observers {
    * @param {() => T} call
    */
   #runAfterStep(about, entries, asked, call) {
-    const { recording, page: { tree, elements, dispatches, jobs } } = this;
+    const { recording, page } = this;
+    const { tree, elements, dispatches, jobs } = page;
     recording.startTask();
     const { 0: first } = entries;
     const step = tree.steps.get(/** @type {Element} */ (first.addedNodes[0])) || tree.steps.get(/** @type {Element} */ (first.target));
     if (!step) return jobs.run(about.handler, asked, call);
     asked.others = joined(asked.others || [], [about.last || null]);
     const standIn = elements.standInIn(step, first.target, 'the first that it was told of');
+    const dispatch = dispatches.beginPlain(standIn, about.name);
+    if (tree.isParsing()) dispatch.awaits = page; // load waits for what is added now
     try {
-      return jobs.runAsHandler(dispatches.beginPlain(standIn, about.name), about.handler, asked, call);
+      return jobs.runAsHandler(dispatch, about.handler, asked, call);
     } finally {
       about.last = recording.lastMoment();
       this.noteBeforeScript();

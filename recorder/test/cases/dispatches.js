@@ -195,6 +195,46 @@ exports.cases = [
     ],
   },
 
+  // ---- mutation observers and `slotchange` of the last parse steps: DOMContentLoaded comes next
+  {
+    page: 'ready-observed.html',
+    due: ['w #end', 'run look', 'w observed', 'on the end of parsing', 'close', 'dcl', 'run the end of parsing', 'run parsed', 'r #end', 'r observed', 'w ready', 'close', 'load', 'r ready'],
+    never: ['fire document DOMContentLoaded'],
+    races: [],
+  },
+  {
+    page: 'ready-observed-states.html',
+    due: [
+      'w #end', 'run look', 'w observed', 'on the end of parsing', 'close', 'dcl', 'run the end of parsing', 'run onState', 'r #end', 'w state', 'run parsed', 'r state', 'w ready', 'close',
+      'load', 'run onState', 'run all', 'r ready',
+    ],
+    never: ['fire document readystatechange', 'fire document DOMContentLoaded', 'fire window DOMContentLoaded'],
+    races: [],
+  },
+  {
+    page: 'ready-slotted.html',
+    due: ['w #end', 'fire slot slotchange', 'run slotted', 'w items', 'on the end of parsing', 'dcl', 'run the end of parsing', 'run parsed', 'r #end', 'w ready', 'close', 'load', 'r ready'],
+    never: ['fire document DOMContentLoaded'],
+    races: [],
+  },
+  {
+    page: 'ready-removed.html',
+    due: ['w #end', 'run look', 'w DOMContentLoaded of document', 'close', 'dcl', 'r DOMContentLoaded of document', 'close', 'load', 'run all', 'r #end'],
+    never: ['run parsed', 'fire document DOMContentLoaded'],
+    races: ['#end', 'DOMContentLoaded of document'],
+  },
+  {
+    page: 'ready-unobserved.html',
+    due: ['w #end', 'dcl', 'r DOMContentLoaded of document', 'run parsed', 'r #end', 'w ready', 'close', 'load', 'run all', 'r ready'],
+    never: ['fire document DOMContentLoaded', 'run the end of parsing'],
+    races: [],
+  },
+  {
+    page: 'observer-adds-image.html',
+    due: ['parse p plain', 'run look', 'new img image', 'close', 'dcl', 'eload img', 'w width', 'load', 'run what load waits for', 'run all', 'r width'],
+    races: [],
+  },
+
   // ---- what could hold a recording up
   {
     page: 'dialogs.html',
