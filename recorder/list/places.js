@@ -1,9 +1,8 @@
 'use strict';
-// The places of a race's two sides for other tools: file, line, column and function.
+// The places of a race's two sides for other tools (json.js, sarif.js): file, line, column and function. And a file's path for the lines of the list (entries.js).
 
 const path = require('node:path');
 const { pathToFileURL } = require('node:url');
-const { ORIGIN } = require('../browser/folder.js');
 const { shown } = require('../common/shown.js');
 
 /**
@@ -129,4 +128,4 @@ function plainPlace(problems, place, folder) {
   return { file: uriOf(names.files[file].address, folder), line, column, ...(name ? { function: name } : {}) };
 }
 
-module.exports = { placesOf, plainPlace, pathInFolder, uriOf, ORIGIN };
+module.exports = { placesOf, plainPlace, pathInFolder, uriOf };

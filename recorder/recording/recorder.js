@@ -1,6 +1,6 @@
 'use strict';
 // Records one page in a browser of its own: loads it, does what the user does, and waits until the page is at rest. `--time` limits how long it loads (the
-// maximum duration).
+// maximum duration): if the load event does not come within it, the trace is written all the same, as not complete (`cut`; status: ../record.js).
 
 const { Chromium } = require('../browser/chromium.js');
 const { resolveAddress } = require('../browser/folder.js');

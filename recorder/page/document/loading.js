@@ -8,7 +8,6 @@ import { isElement, isMedia } from '../core/things.js';
 
 /** The events of a page that is left, in their order. */
 const LEAVING = ['beforeunload', 'pagehide', 'visibilitychange', 'unload'];
-
 /** @typedef {import('../types').Moment} Moment */
 /** @typedef {import('../types').Moments} Moments */
 /** @typedef {import('../types').Target} Target */

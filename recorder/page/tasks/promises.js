@@ -1,5 +1,6 @@
 // Calls that ask for a job: `then`, `queueMicrotask`, and promises of several promises, whose reactions come after what has settled each. `Promise.all`,
-// `allSettled`, `any`.
+// `allSettled`, `any`. The browser calls the `then` of a thenable (an object of the page) in a job of its own, which is not seen: it belongs to the running
+// action.
 
 import { each, findItem, joined } from '../core/lists.js';
 import { replaceMethod } from '../core/replacing.js';

@@ -1,6 +1,6 @@
 'use strict';
 // The differences between runs, with those of their pictures, and which of them come from the other order. Those that are there without it too (noise, as of
-// random numbers or the clock) are left out, whatever the numbers in them.
+// random numbers or the clock) are left out, whatever the numbers in them: `unsteady`, found by one run with nothing reversed (../free-run.js).
 
 const { compare } = require('./compare.js');
 const { Pictures } = require('./pictures.js');
