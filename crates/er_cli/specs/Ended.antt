@@ -31,7 +31,7 @@ pub record EndsWith (words : List (List ℕ)) (old new : Streams) (line : Option
       → (new.left ≡ old.left) × (outcome ≢ ReadFault)
   pub unwritten : IsSilent outcome → new.got ≡ old.got
 
--- the line where the system did not hand over the words, and the status, which no outcome has
+-- the line if the system did not pass the arguments, and the status, which no outcome has
 abbrev pub no_words_line : List ℕ
 no_words_line = codes "er_cli: arguments could not be read"
 
@@ -43,7 +43,7 @@ pub record LacksWords (line : Option (List ℕ)) (status : ℕ) : Type 0 where
   pub line_is : line ≡ Some no_words_line
   pub status_is : status ≡ no_words_status
 
--- how it ends if memory ran out
+-- how it ends if an allocation failed
 pub record LacksMemory (line : Option (List ℕ)) (status : ℕ) : Type 0 where
   pub line_is : line ≡ line_of NoMemory
   pub status_is : status ≡ status_of NoMemory

@@ -1,16 +1,15 @@
 -- What a proper front of a trace lacks: the end of a line.
-use Rattle.std.proofs.Common.{◌≡◌, ◌⊎◌, ℕ, ◌+◌, ◌<◌, ◌≤◌, List, [], ◌∷◌, ◌++◌, length, true, ◌&&◌, refl, ap, sym, ◌∙◌, inl, inr, arith, append_assoc, append-nil, length-append}
-use Rattle.std.specs.Prelude.{nat_lt}
+use Rattle.std.proofs.Common.{◌≡◌, ◌⊎◌, ℕ, ◌+◌, ◌<◌, ◌≤◌, List, [], ◌∷◌, ◌++◌, length, true, refl, ap, sym, ◌∙◌, inl, inr, arith, append_assoc, append-nil, length-append}
 use Rattle.std.proofs.lemmas.Grind.{common_steps}
 use Rattle.er_text.specs.Bytes.{has_no_lf}
-use Rattle.er_text.specs.declared.causes.Cause.TheVariants.{NoEnd}
 use Rattle.er_text.proofs.ByteLaws.{lacks-append}
 use Rattle.er_trace.specs.declared.record.Record.{Record}
 use Rattle.er_trace.specs.declared.version.Version.{Version}
 use Rattle.er_trace.specs.Trace.{most_lines, line}
 use Rattle.er_lines.specs.Format.{Format}
-use Rattle.er_lines.specs.Lines.{Start, After, IsShort, AreLines, whole_line, IsTrace, IsCutTrace}
-use Rattle.er_lines.proofs.CauseLaws.{whole_short, start_err, cause_err, few_many}
+use Rattle.er_lines.specs.Lines.{Start, After, IsShort, AreLines, IsTrace, IsCutTrace}
+use Rattle.er_lines.specs.Lines as by_cause
+use Rattle.er_lines.proofs.CauseLaws.{few_many}
 
 -- a front of some bytes ends within their first line, or behind it
 abbrev FrontOf : List ℕ → List ℕ → List ℕ → List ℕ → Type 0
@@ -99,7 +98,7 @@ cut_first f v records first bytes back short e = (
     are = refl;
     few = omega arith;
     begins = refl;
-    cause = start_err f (whole_line f.most bytes) NoEnd (whole_short f.most bytes (short_front f.most first bytes back short e));
+    cause = by_cause.NoEnd refl (few_many 1 bytes (omega arith)) (short_front f.most first bytes back short e) refl;
   },
   tt,
 )
@@ -114,7 +113,7 @@ cut_later f v records first bytes later within short header e cut =
         are = record { first = first; short = short; header = header; later = cut.before; begins = refl; lines = cut.are };
         few = omega (arith, few);
         begins = e ∙ (ap (λ r. line first ++ r) cut.begins ∙ sym (append_assoc (line first) cut.before cut.rest));
-        cause = cause_err f v (nat_lt most_lines (length cut.front + 2) && nat_lt 0 (length cut.rest)) (whole_line f.most cut.rest) NoEnd (few_many (length cut.front + 2) cut.rest few) (whole_short f.most cut.rest cut.short);
+        cause = by_cause.NoEnd refl (few_many (length cut.front + 2) cut.rest few) cut.short refl;
       },
       (refl, (cut.back, cut.is)),
     )

@@ -1,6 +1,6 @@
 -- What a feed keeps, from line to line.
-use Rattle.std.proofs.Common.{◌≡◌, ℕ, ◌+◌, ◌<◌, ◌≤◌, List, [], ◌∷◌, ◌++◌, length, take, true, ◌&&◌, ◌-◌, Option, Some, None, Ok, Err, refl, ap, sym, ◌∙◌, subst, arith, append_assoc, append-nil, length-append}
-use Rattle.std.specs.Prelude.{◌≢◌, nat_lt}
+use Rattle.std.proofs.Common.{◌≡◌, ℕ, ◌+◌, ◌<◌, ◌≤◌, List, [], ◌∷◌, ◌++◌, length, take, true, ◌-◌, Option, Some, None, refl, ap, sym, ◌∙◌, subst, arith, append_assoc, append-nil, length-append}
+use Rattle.std.specs.Prelude.{◌≢◌}
 use Rattle.er_text.specs.Bytes.{has_no_lf}
 use Rattle.er_text.specs.declared.causes.Cause.{Cause}
 use Rattle.er_text.specs.declared.causes.Cause.TheVariants.{LongLine, NoEnd}
@@ -12,23 +12,23 @@ use Rattle.er_trace.specs.Trace.{most_lines, line as with_end}
 use Rattle.er_lines.specs.declared.mark.Mark.{Mark}
 use Rattle.er_lines.specs.declared.mark.Mark.TheVariants as marks
 use Rattle.er_lines.specs.Format.{Format}
-use Rattle.er_lines.specs.Lines.{Place, Start, After, Ended, line_number, records_before, IsShort, AreLines, AreBehind, AreBefore, whole_line, LineCause}
+use Rattle.er_lines.specs.Lines.{Place, Start, After, Ended, line_number, records_before, IsShort, AreLines, AreBehind, AreBefore, is_long, LineCause}
+use Rattle.er_lines.specs.Lines as by_cause
 use Rattle.er_lines.specs.Marks.{mark_of, number_at, IsOpen, IsClosed}
 use Rattle.er_lines.specs.Feed.{IsUnfinished, Stands}
 use Rattle.er_lines.specs.Steps.{IsLine, IsBadLine, IsFront, IsFrontAt, Leads, LeadsPart, Took}
-use Rattle.er_lines.proofs.CauseLaws.{whole_short, short_whole, start_err, start_bad, start_no_end, cause_many, cause_err, cause_bad, cause_no_end, no_bytes_many, few_many, some_many, short_both, whole_both, long_both}
+use Rattle.er_lines.proofs.CauseLaws.{no_end_short, no_bytes_many, few_many, some_many, short_both, long_both}
 
 -- a line that is not at its end yet is short
 pub unfinished_short : (f : Format) (place : Place) (line : List ℕ) → IsUnfinished f place line → IsShort f.most line
-unfinished_short f Start line h = short_whole f.most line (start_no_end f (whole_line f.most line) h)
-unfinished_short f (After v records) line h = short_whole f.most line (cause_no_end f v (nat_lt most_lines (length records + 2) && nat_lt 0 (length line)) (whole_line f.most line) h)
+unfinished_short f Start line h = no_end_short f Start line h
+unfinished_short f (After v records) line h = no_end_short f (After v records) line h
 unfinished_short f (Ended v records) line h = rw h record { clear = refl; few = omega arith }
 
 -- where a line may stand, a short one is not at its end yet
 pub short_unfinished : (f : Format) (place : Place) (line : List ℕ) → IsOpen (mark_of place) → IsShort f.most line → IsUnfinished f place line
-short_unfinished f Start line free h = start_err f (whole_line f.most line) NoEnd (whole_short f.most line h)
-short_unfinished f (After v records) line free h =
-    cause_err f v (nat_lt most_lines (length records + 2) && nat_lt 0 (length line)) (whole_line f.most line) NoEnd (few_many (length records + 2) line free) (whole_short f.most line h)
+short_unfinished f Start line free h = by_cause.NoEnd refl (few_many 1 line (omega arith)) h refl
+short_unfinished f (After v records) line free h = by_cause.NoEnd refl (few_many (length records + 2) line free) h refl
 short_unfinished f (Ended v records) line free h = elim free [ ]
 
 none_short : (most : ℕ) → IsShort most []
@@ -36,8 +36,8 @@ none_short most = record { clear = refl; few = omega arith }
 
 -- no byte of a line has come
 pub none_unfinished : (f : Format) (place : Place) → IsUnfinished f place []
-none_unfinished f Start = start_err f (whole_line f.most []) NoEnd (whole_short f.most [] (none_short f.most))
-none_unfinished f (After v records) = cause_err f v (nat_lt most_lines (length records + 2) && nat_lt 0 0) (whole_line f.most []) NoEnd (no_bytes_many (length records + 2)) (whole_short f.most [] (none_short f.most))
+none_unfinished f Start = by_cause.NoEnd refl (no_bytes_many 1) (none_short f.most) refl
+none_unfinished f (After v records) = by_cause.NoEnd refl (no_bytes_many (length records + 2)) (none_short f.most) refl
 none_unfinished f (Ended v records) = refl
 
 pub number_of_place : (place : Place) → number_at (mark_of place) ≡ line_number place
@@ -203,16 +203,18 @@ refused f mark kept chunk later n c old new why other numbered same = record {
       };
 }
 
-bad_cause : (f : Format) (place : Place) (l rest bytes : List ℕ) (c : Cause) → IsOpen (mark_of place) → IsBadLine f (mark_of place) l c → whole_line f.most bytes ≡ Ok (l, rest) → LineCause f place bytes c
-bad_cause f Start l rest bytes c free is whole = start_bad f (whole_line f.most bytes) l rest c whole is
-bad_cause f (After v records) l rest bytes c free is whole =
-    cause_bad f v (nat_lt most_lines (length records + 2) && nat_lt 0 (length bytes)) (whole_line f.most bytes) l rest c (few_many (length records + 2) bytes free) whole is
-bad_cause f (Ended v records) l rest bytes c free is whole = elim free [ ]
+bad_cause : (f : Format) (place : Place) (l later bytes : List ℕ) (c : Cause) → IsOpen (mark_of place) → IsBadLine f (mark_of place) l c → IsShort f.most l → bytes ≡ with_end l ++ later → LineCause f place bytes c
+bad_cause f Start l later bytes c free is short begins = by_cause.BadHeader l later refl short begins is.0 is.1
+bad_cause f (After v records) l later bytes c free is short begins = by_cause.BadRecord v records l later refl (few_many (length records + 2) bytes free) short begins is.0 is.1 is.2
+bad_cause f (Ended v records) l later bytes c free is short begins = elim free [ ]
 
 bad_is_no_end : (f : Format) (mark : Mark) (l : List ℕ) (c : Cause) → IsBadLine f mark l c → c ≢ NoEnd
 bad_is_no_end f marks.Start l c is e = let same = is.1 in absurd (cc)
 bad_is_no_end f (marks.After v n) l c is e = let same = is.2 in absurd (cc)
 bad_is_no_end f (marks.Ended v n) l c is e = elim is [ ]
+
+line_with : (kept front later chunk : List ℕ) → chunk ≡ front ++ 10 ∷ later → kept ++ chunk ≡ with_end (kept ++ front) ++ later
+line_with kept front later chunk e = (ap (λ p. kept ++ p) e ∙ sym (append_assoc kept front (10 ∷ later))) ∙ sym (append_assoc (kept ++ front) (10 ∷ []) later)
 
 -- a whole line is refused
 pub refused_line : (f : Format) (mark next : Mark) (kept chunk front later left : List ℕ) (n : ℕ) (c : Cause) (old new : List Record) → IsOpen mark → IsBadLine f mark (kept ++ front) c → chunk ≡ front ++ 10 ∷ later → has_no_lf front ≡ true → length kept + length front ≤ f.most
@@ -220,14 +222,13 @@ pub refused_line : (f : Format) (mark next : Mark) (kept chunk front later left 
 refused_line f mark next kept chunk front later left n c old new free is e clear few numbered stays same =
     let why : RefusesWith f mark kept chunk c = λ place marked short.
     bad_cause f place (kept ++ front) later (kept ++ chunk) c (subst IsOpen marked free) (subst (λ (m : Mark). IsBadLine f m (kept ++ front) c) marked is)
-    (whole_both f.most kept front later chunk (short_both f.most kept front short clear few) e) in
+    (short_both f.most kept front short clear few) (line_with kept front later chunk e) in
     subst (λ (m : Mark). Leads f mark kept chunk m left (Some (Refused n c)) old new) (sym stays)
     (refused f mark kept chunk left n c old new why (bad_is_no_end f mark (kept ++ front) c is) numbered same)
 
-long_cause : (f : Format) (place : Place) (bytes : List ℕ) → IsOpen (mark_of place) → whole_line f.most bytes ≡ Err LongLine → LineCause f place bytes LongLine
-long_cause f Start bytes free long = start_err f (whole_line f.most bytes) LongLine long
-long_cause f (After v records) bytes free long =
-    cause_err f v (nat_lt most_lines (length records + 2) && nat_lt 0 (length bytes)) (whole_line f.most bytes) LongLine (few_many (length records + 2) bytes free) long
+long_cause : (f : Format) (place : Place) (bytes : List ℕ) → IsOpen (mark_of place) → is_long f.most bytes ≡ true → LineCause f place bytes LongLine
+long_cause f Start bytes free long = by_cause.LongLine refl (few_many 1 bytes (omega arith)) long refl
+long_cause f (After v records) bytes free long = by_cause.LongLine refl (few_many (length records + 2) bytes free) long refl
 long_cause f (Ended v records) bytes free long = elim free [ ]
 
 -- a line is too long
@@ -239,10 +240,8 @@ refused_long f mark kept chunk left n c old free clear many numbered is =
     refused f mark kept chunk left n c old old why_c (λ e. absurd (cc)) numbered refl
 
 closed_cause : (f : Format) (place : Place) (kept chunk : List ℕ) (c : Cause) → IsClosed (mark_of place) c → 0 < length chunk → LineCause f place (kept ++ chunk) c
-closed_cause f (After v records) kept chunk c is some =
-    let many : (nat_lt most_lines (length records + 2) && nat_lt 0 (length (kept ++ chunk))) ≡ true = some_many (length records + 2) (kept ++ chunk) is.0 (omega (arith, length-append kept chunk)) in
-    cause_many f v (nat_lt most_lines (length records + 2) && nat_lt 0 (length (kept ++ chunk))) (whole_line f.most (kept ++ chunk)) c many is.1
-closed_cause f (Ended v records) kept chunk c is some = ((λ e. absurd (omega (arith, ap length e, length-append kept chunk))), is)
+closed_cause f (After v records) kept chunk c is some = by_cause.TooManyLines refl (some_many (length records + 2) (kept ++ chunk) is.0 (omega (arith, length-append kept chunk))) is.1
+closed_cause f (Ended v records) kept chunk c is some = by_cause.AfterEnd refl (λ e. absurd (omega (arith, ap length e, length-append kept chunk))) is
 closed_cause f Start kept chunk c is some = elim is [ ]
 
 closed_is_no_end : (mark : Mark) (c : Cause) → IsClosed mark c → c ≢ NoEnd

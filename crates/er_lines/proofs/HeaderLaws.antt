@@ -10,10 +10,12 @@ use Rattle.er_trace.specs.declared.fault.FeedFault.TheVariants.{Refused, NoMemor
 use Rattle.er_trace.specs.Trace.{line as with_end}
 use Rattle.er_lines.specs.declared.mark.Mark.{Mark}
 use Rattle.er_lines.specs.Format.{Format}
-use Rattle.er_lines.specs.Lines.{Place, Start, After, Ended, AreBehind, AreWhole, AreBefore, whole_line, LineCause, BeginsWith}
+use Rattle.er_lines.specs.Lines.{Place, Start, After, Ended, AreBehind, AreWhole, AreBefore, LineCause, BeginsWith}
 use Rattle.er_lines.specs.Marks.{mark_of, version_at}
 use Rattle.er_lines.specs.Feed.{IsUnfinished, IsRefusedAt, Stands}
-use Rattle.er_lines.proofs.OneReading.{front_of, no_header_by}
+use Rattle.er_lines.proofs.LineLaws.{whole_line}
+use Rattle.er_lines.proofs.CauseLaws.{cause_at, front_of}
+use Rattle.er_lines.proofs.OneReading.{no_header_by}
 
 pub header_of : (f : Format) (v : Version) (bytes before rest : List ℕ) (records : List Record) → bytes ≡ before ++ rest → AreBehind f v before records → BeginsWith f v bytes
 header_of f v bytes before rest records begins are = record {
@@ -54,7 +56,7 @@ no_header_at f (Ended w records) mark line bytes before rest fault v are begins 
 no_header_at f Start mark line bytes before rest fault v are begins none kept header =
     let all : rest ≡ bytes = sym (begins ∙ ap (λ b. b ++ rest) are) in
     let why : (c : Cause) × LineCause f Start rest c = kept_at_start f line rest fault kept in
-    no_header_by f (whole_line f.most rest) why.0 v header.first header.rest why.1
+    no_header_by f (whole_line f.most rest) why.0 v header.first header.rest (cause_at f Start rest why.0 why.1)
     (front_of f.most rest header.first header.rest header.short (all ∙ header.begins)) header.header
 
 -- and where it tells none, none was given

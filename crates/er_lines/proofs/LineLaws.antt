@@ -1,16 +1,21 @@
 -- Whole lines.
 use Rattle.std.proofs.Common.{◌≡◌, ℕ, ◌+◌, ◌<◌, ◌≤◌, zero, suc, List, [], ◌∷◌, ◌++◌, length, take, drop, Bool, true, false, Option, Some, None, Ok, Err, refl, ap, sym, ◌∙◌, arith, append_assoc, length-append}
-use Rattle.std.specs.Prelude.{if◌then◌else◌}
+use Rattle.std.specs.Prelude.{if◌then◌else◌, Result}
 use Rattle.std.specs.Option.{ok_or}
 use Rattle.std.proofs.lemmas.List.{take-append-drop}
 use Rattle.std.proofs.lemmas.Bool.Decides.{nat_tests}
 use Rattle.std.proofs.lemmas.Grind.{common_steps}
 use Rattle.er_text.specs.Bytes.{has_no_lf}
 use Rattle.er_text.specs.Lines.{first_line}
+use Rattle.er_text.specs.declared.causes.Cause.{Cause}
 use Rattle.er_text.specs.declared.causes.Cause.TheVariants.{LongLine, NoEnd}
 use Rattle.er_text.proofs.LineLaws.{first_line-at, first_line_parts}
 use Rattle.er_trace.specs.Trace.{line}
-use Rattle.er_lines.specs.Lines.{IsShort, whole_line, is_long}
+use Rattle.er_lines.specs.Lines.{IsShort, is_long}
+
+-- the whole line at the front of the bytes and the bytes after its LF, or why there is none
+abbrev pub whole_line : ℕ → List ℕ → Result (List ℕ × List ℕ) Cause
+whole_line most bytes = if is_long most bytes then Err LongLine else ok_or (first_line bytes) NoEnd
 
 drop_line : (line rest : List ℕ) → drop (length line + 1) (line ++ 10 ∷ rest) ≡ rest
 drop_line [] rest = refl

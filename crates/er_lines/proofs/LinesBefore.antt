@@ -2,13 +2,13 @@
 use Rattle.std.proofs.Common.{◌≡◌, ℕ, ◌+◌, List, [], ◌∷◌, ◌++◌, length, true, refl, ap, ◌∙◌, arith}
 use Rattle.std.proofs.lemmas.Grind.{common_steps}
 use Rattle.er_text.specs.Bytes.{count_of_lf, has_no_lf}
-use Rattle.er_text.specs.declared.causes.Cause.TheVariants.{NoEnd, AfterEnd}
+use Rattle.er_text.specs.declared.causes.Cause.TheVariants.{NoEnd}
 use Rattle.er_trace.specs.declared.record.Record.{Record}
 use Rattle.er_trace.specs.declared.version.Version.{Version}
 use Rattle.er_trace.specs.Trace.{line}
 use Rattle.er_lines.specs.Format.{Format}
-use Rattle.er_lines.specs.Lines.{Place, Start, After, Ended, line_number, IsShort, AreLines, AreBehind, AreBefore, Refuses, LineCause}
-use Rattle.er_lines.proofs.FeedLaws.{unfinished_short}
+use Rattle.er_lines.specs.Lines.{Place, Start, After, Ended, line_number, AreLines, AreBehind, AreBefore, Refuses}
+use Rattle.er_lines.proofs.CauseLaws.{no_end_short}
 
 count_of_both : (a b : List ℕ) → count_of_lf (a ++ b) ≡ count_of_lf a + count_of_lf b
 count_of_both [] b = grind (arith, common_steps)
@@ -51,13 +51,8 @@ line_of_a_place f (Ended v records) bytes are =
     let one : count_of_lf (line are.last) ≡ 1 = count_of_line are.last are.short.clear in
     omega (arith, e, before, one)
 
-short_of : (f : Format) (place : Place) (rest : List ℕ) → LineCause f place rest NoEnd → IsShort f.most rest
-short_of f Start rest h = unfinished_short f Start rest h
-short_of f (After v records) rest h = unfinished_short f (After v records) rest h
-short_of f (Ended v records) rest h = let no : NoEnd ≡ AfterEnd = h.1 in absurd (cc)
-
 pub line_of_no_end : (f : Format) (bytes : List ℕ) (place : Place) → Refuses f bytes place NoEnd → line_number place ≡ count_of_lf bytes + 1
 line_of_no_end f bytes place h =
     let all : count_of_lf bytes ≡ count_of_lf h.before + count_of_lf h.rest = ap count_of_lf h.begins ∙ count_of_both h.before h.rest in
-    let none : count_of_lf h.rest ≡ 0 = count_of_none h.rest (short_of f place h.rest h.cause).clear in
+    let none : count_of_lf h.rest ≡ 0 = count_of_none h.rest (no_end_short f place h.rest h.cause).clear in
     omega (arith, all, none, line_of_a_place f place h.before h.are)

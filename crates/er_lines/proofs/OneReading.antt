@@ -7,9 +7,9 @@ use Rattle.er_trace.specs.declared.record.Record.{Record}
 use Rattle.er_trace.specs.declared.version.Version.{Version}
 use Rattle.er_trace.specs.Trace.{most_lines, line}
 use Rattle.er_lines.specs.Format.{Format, IsFormat}
-use Rattle.er_lines.specs.Lines.{Place, Start, After, Ended, IsShort, AreLines, AreBehind, whole_line, SpellsNone, StartCause, RecordCause, IsTrace, BeginsWith, Refuses}
-use Rattle.er_lines.proofs.LineLaws.{whole_line-with}
-use Rattle.er_lines.proofs.CauseLaws.{Line, StartBy, CauseBy, few_many}
+use Rattle.er_lines.specs.Lines.{Place, Start, After, Ended, IsShort, AreLines, AreBehind, SpellsNone, IsTrace, BeginsWith, Refuses}
+use Rattle.er_lines.proofs.LineLaws.{whole_line}
+use Rattle.er_lines.proofs.CauseLaws.{Line, StartBy, CauseBy, StartCause, RecordCause, CauseAt, cause_at, few_many, front_of}
 
 -- what ends the records: a line with a cause, or a last line, and the bytes after it
 pub data Stop : Type 0 where
@@ -47,10 +47,6 @@ cause_of_line f v false (Err why) c l rest h few is = absurd (cc)
 -- a line with a cause is neither a record nor the end
 pub no_line : (f : Format) (v : Version) (number : ℕ) (bytes l rest : List ℕ) (c : Cause) → RecordCause f v number bytes c → number ≤ most_lines → whole_line f.most bytes ≡ Ok (l, rest) → ¬ f.IsEnd l × SpellsNone f v l
 no_line f v number bytes l rest c h few is = cause_of_line f v (nat_lt most_lines number && nat_lt 0 (length bytes)) (whole_line f.most bytes) c l rest h (few_many number bytes few) is
-
--- the whole line at the front of the bytes
-pub front_of : (most : ℕ) (bytes l rest : List ℕ) → IsShort most l → bytes ≡ line l ++ rest → whole_line most bytes ≡ Ok (l, rest)
-front_of most bytes l rest short e = ap (whole_line most) e ∙ whole_line-with most l rest short
 
 pub record SameFront (l m a b : List ℕ) : Type 0 where
   pub line : l ≡ m
@@ -150,7 +146,7 @@ pub data Refusal (f : Format) (bytes : List ℕ) (place : Place) (rest : List �
 refusal : (f : Format) (bytes : List ℕ) (place : Place) (c : Cause) → (h : Refuses f bytes place c) → Refusal f bytes place h.rest c
 refusal f bytes Start c h =
     let same : bytes ≡ h.rest = h.begins ∙ ap (λ b. b ++ h.rest) h.are in
-    AtHeader (subst (λ (b : List ℕ). StartCause f b c) (sym same) h.cause) refl same
+    AtHeader (subst (λ (b : List ℕ). StartCause f b c) (sym same) (cause_at f Start h.rest c h.cause)) refl same
 refusal f bytes (After v records) c h =
     let up : length records + 2 ≡ 2 + length records = omega arith in
     AtLine v records (record {
@@ -158,16 +154,17 @@ refusal f bytes (After v records) c h =
       are = h.are;
       few = omega (arith, h.few);
       begins = h.begins;
-      stops = subst (λ (n : ℕ). RecordCause f v n h.rest c) up h.cause;
+      stops = subst (λ (n : ℕ). RecordCause f v n h.rest c) up (cause_at f (After v records) h.rest c h.cause);
     }) refl
 refusal f bytes (Ended v records) c h =
-    PastEnd v records (line h.are.last ++ h.rest) h.cause.0 (record {
+    let past : CauseAt f (Ended v records) h.rest c = cause_at f (Ended v records) h.rest c h.cause in
+    PastEnd v records (line h.are.last ++ h.rest) past.0 (record {
       front = h.are.front;
       are = h.are.behind;
       few = omega (arith, h.few);
       begins = (h.begins ∙ ap (λ b. b ++ h.rest) h.are.begins) ∙ append_assoc h.are.front (line h.are.last) h.rest;
       stops = (h.are.last, omega (arith, h.few), h.are.short, h.are.end, refl);
-    }) refl h.cause.1
+    }) refl past.1
 
 trace_behind : (f : Format) (v : Version) (bytes : List ℕ) (records : List Record) → (h : IsTrace f v bytes records) → Behind f v bytes records (line h.whole.last) (AtEnd [])
 trace_behind f v bytes records h = record {

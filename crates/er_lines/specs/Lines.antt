@@ -1,11 +1,9 @@
 -- A whole trace of a format, and the causes for which a line is no line of one. Records stand
 -- oldest first.
-use Rattle.std.specs.Prelude.{◌≡◌, ◌≢◌, ℕ, ◌+◌, ◌≤◌, Bool, true, ◌&&◌, nat_lt, List, [], ◌∷◌, ◌++◌, length, take, if◌then◌else◌, Option, Some, None, Result, Err, MatchResult, MatchBool}
-use Rattle.std.specs.Option.{ok_or}
+use Rattle.std.specs.Prelude.{◌≡◌, ◌≢◌, ℕ, ◌+◌, ◌≤◌, Bool, true, false, ◌&&◌, nat_lt, List, [], ◌∷◌, ◌++◌, length, take, Option, Some, None}
 use Rattle.er_text.specs.Bytes.{has_no_lf}
-use Rattle.er_text.specs.Lines.{first_line}
 use Rattle.er_text.specs.declared.causes.Cause.{Cause}
-use Rattle.er_text.specs.declared.causes.Cause.TheVariants.{BadHeader, LongLine, BadRecord, NoEnd, AfterEnd, TooManyLines}
+use Rattle.er_text.specs.declared.causes.Cause.TheVariants as causes
 use Rattle.er_trace.specs.declared.record.Record.{Record}
 use Rattle.er_trace.specs.declared.version.Version.{Version}
 use Rattle.er_trace.specs.Trace.{most_lines, line}
@@ -77,9 +75,14 @@ AreBefore f (Ended v records) bytes = AreWhole f v bytes records
 abbrev pub is_long : ℕ → List ℕ → Bool
 is_long most bytes = nat_lt most (length bytes) && has_no_lf (take (most + 1) bytes)
 
--- the whole line at the front of the bytes and the bytes after its LF, or why there is none
-abbrev pub whole_line : ℕ → List ℕ → Result (List ℕ × List ℕ) Cause
-whole_line most bytes = if is_long most bytes then Err LongLine else ok_or (first_line bytes) NoEnd
+-- there are bytes, and the number of the line is above the most
+abbrev pub is_extra : Place → List ℕ → Bool
+is_extra place rest = nat_lt most_lines (line_number place) && nat_lt 0 (length rest)
+
+-- the line begins after the last line
+abbrev pub is_past_end : Place → Bool
+is_past_end (Ended v records) = true
+is_past_end _ = false
 
 -- it is the first line of no version
 abbrev pub IsNoHeader : Format → List ℕ → Type 0
@@ -89,33 +92,27 @@ IsNoHeader f l = (v : Version) → ¬ f.IsHeader v l
 abbrev pub SpellsNone : Format → Version → List ℕ → Type 0
 SpellsNone f v l = (x : Record) → f.Spells v l x → ⊥
 
--- Why the first line, with these bytes from it on, is no header.
-abbrev pub StartCause : Format → List ℕ → Cause → Type 0
-StartCause f rest c =
-    MatchResult (whole_line f.most rest) (λ l. IsNoHeader f l.0 × (c ≡ BadHeader)) (λ why. c ≡ why)
-
--- Why the line of that number, with these bytes from it on, is neither a record of the version nor
--- the end: the first cause that applies.
-abbrev pub RecordCause : Format → Version → ℕ → List ℕ → Cause → Type 0
-RecordCause f v number rest c =
-    MatchBool (nat_lt most_lines number && nat_lt 0 (length rest))
-    (c ≡ TooManyLines)
-    (MatchResult (whole_line f.most rest)
-    (λ l. ¬ f.IsEnd l.0 × SpellsNone f v l.0 × (c ≡ BadRecord))
-    (λ why. c ≡ why))
-
 -- Why the line that begins there, with these bytes from it on, is no line of a trace: the first of
 -- these that applies.
--- after-end: there are bytes after the last line
--- too-many-lines: there are bytes, and the number of the line is above the most
--- long-line: more bytes than a line may have came without an LF
--- no-end: no LF comes, also where there are no bytes
--- bad-header: the first line is the header of no version
--- bad-record: a later line is neither a last one nor spells a record of the version
-abbrev pub LineCause : Format → Place → List ℕ → Cause → Type 0
-LineCause f Start rest c = StartCause f rest c
-LineCause f (After v records) rest c = RecordCause f v (length records + 2) rest c
-LineCause f (Ended v records) rest c = (rest ≢ []) × (c ≡ AfterEnd)
+-- AfterEnd: there are bytes after the last line
+-- TooManyLines: there are bytes, and the number of the line is above the most
+-- LongLine: more bytes than a line may have came without an LF
+-- NoEnd: no LF comes, also where there are no bytes
+-- BadHeader: the first line is the header of no version
+-- BadRecord: a later line is neither a last one nor spells a record of the version
+pub data LineCause (f : Format) (place : Place) (rest : List ℕ) (c : Cause) : Type 0 where
+  AfterEnd : is_past_end place ≡ true → rest ≢ [] → c ≡ causes.AfterEnd → LineCause f place rest c
+  TooManyLines : is_past_end place ≡ false → is_extra place rest ≡ true → c ≡ causes.TooManyLines
+      → LineCause f place rest c
+  LongLine : is_past_end place ≡ false → is_extra place rest ≡ false → is_long f.most rest ≡ true
+      → c ≡ causes.LongLine → LineCause f place rest c
+  NoEnd : is_past_end place ≡ false → is_extra place rest ≡ false → IsShort f.most rest
+      → c ≡ causes.NoEnd → LineCause f place rest c
+  BadHeader : (l later : List ℕ) → place ≡ Start → IsShort f.most l → rest ≡ line l ++ later
+      → IsNoHeader f l → c ≡ causes.BadHeader → LineCause f place rest c
+  BadRecord : (v : Version) (records : List Record) (l later : List ℕ) → place ≡ After v records
+      → is_extra place rest ≡ false → IsShort f.most l → rest ≡ line l ++ later → ¬ f.IsEnd l
+      → SpellsNone f v l → c ≡ causes.BadRecord → LineCause f place rest c
 
 -- the bytes are a whole trace of that version with these records
 pub record IsTrace (f : Format) (v : Version) (bytes : List ℕ)
@@ -165,4 +162,4 @@ IsWithin v records (Ended w front) = ⊥
 -- some of the records
 abbrev pub IsCutTrace : Format → Version → List Record → List ℕ → Type 0
 IsCutTrace f v records bytes =
-    (place : Place) × Refuses f bytes place NoEnd × IsWithin v records place
+    (place : Place) × Refuses f bytes place causes.NoEnd × IsWithin v records place

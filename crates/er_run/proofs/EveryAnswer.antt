@@ -16,9 +16,11 @@ use Rattle.er_run.specs.declared.outcome.Outcome.TheVariants.{Refused}
 use Rattle.er_run.specs.Reading.{HasNoOtherVersion, IsReading}
 use Rattle.er_trace.specs.declared.version.Version.TheVariants.{One}
 use Rattle.er_lines.specs.Format.{Format, IsFormat}
-use Rattle.er_lines.specs.Lines.{Place, Start, After, Ended, StartCause, whole_line, BeginsWith, Refuses}
+use Rattle.er_lines.specs.Lines.{Place, Start, After, Ended, LineCause, BeginsWith, Refuses}
+use Rattle.er_lines.proofs.LineLaws.{whole_line}
+use Rattle.er_lines.proofs.CauseLaws.{cause_at, front_of}
 use Rattle.er_lines.proofs.HeaderLaws.{header_of, header_of_whole}
-use Rattle.er_lines.proofs.OneReading.{front_of, no_header_by, one_beginning}
+use Rattle.er_lines.proofs.OneReading.{no_header_by, one_beginning}
 use Rattle.er_run.specs.Answer.{FirstIllegal, Answers}
 use Rattle.er_words.specs.declared.commands.Command.{Command}
 use Rattle.er_run.specs.Report.{text_for, refusal_for}
@@ -112,10 +114,10 @@ version_at Start = One
 version_at (After v records) = v
 version_at (Ended v records) = v
 
-no_first_line : (f : Format) (bytes before rest : List ℕ) (c : Cause) (w : Version) → before ≡ [] → bytes ≡ before ++ rest → StartCause f rest c → BeginsWith f w bytes → ⊥
+no_first_line : (f : Format) (bytes before rest : List ℕ) (c : Cause) (w : Version) → before ≡ [] → bytes ≡ before ++ rest → LineCause f Start rest c → BeginsWith f w bytes → ⊥
 no_first_line f bytes before rest c w none is cause begins =
     let all : rest ≡ bytes = sym (is ∙ ap (λ b. b ++ rest) none) in
-    no_header_by f (whole_line f.most rest) c w begins.first begins.rest cause (front_of f.most rest begins.first begins.rest begins.short (all ∙ begins.begins)) begins.header
+    no_header_by f (whole_line f.most rest) c w begins.first begins.rest (cause_at f Start rest c cause) (front_of f.most rest begins.first begins.rest begins.short (all ∙ begins.begins)) begins.header
 
 by_place : (f : Format) → IsFormat f → (place : Place) (bytes : List ℕ) (c : Cause) → Refuses f bytes place c → HasNoOtherVersion f (version_at place) bytes
 by_place f good Start bytes c h = λ w begins. absurd (no_first_line f bytes h.before h.rest c w h.are h.begins h.cause begins)

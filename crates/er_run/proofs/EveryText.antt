@@ -8,9 +8,10 @@ use Rattle.er_trace.specs.declared.record.Record.{Record}
 use Rattle.er_trace.specs.declared.version.Version.{Version}
 use Rattle.er_trace.specs.Trace.{most_lines, line}
 use Rattle.er_lines.specs.Format.{Format}
-use Rattle.er_lines.specs.Lines.{Start, After, Ended, IsShort, AreBehind, whole_line, IsNoHeader, SpellsNone, IsTraceOf, StartCause, RecordCause, ReadsUntil}
-use Rattle.er_lines.proofs.LineLaws.{whole_line_parts}
-use Rattle.er_lines.proofs.CauseLaws.{Line, StartBy, CauseBy, found_short}
+use Rattle.er_lines.specs.Lines.{Start, After, Ended, IsShort, AreBehind, IsNoHeader, SpellsNone, IsTraceOf, ReadsUntil}
+use Rattle.er_lines.specs.Lines as by_cause
+use Rattle.er_lines.proofs.LineLaws.{whole_line, whole_line_parts}
+use Rattle.er_lines.proofs.CauseLaws.{Line, StartBy, CauseBy, StartCause, RecordCause, line_cause, found_short}
 use Rattle.er_lines.proofs.FeedLaws.{behind_more}
 
 -- what comes of reading the bytes
@@ -37,7 +38,7 @@ behind_line bytes before l rest later begins is =
 
 at_refusal : (f : Format) (v : Version) (bytes : List ℕ) (records : List Record) (number : ℕ) (rest : List ℕ) (c : Cause) → At f v bytes records number rest → RecordCause f v number rest c → Reads f bytes
 at_refusal f v bytes records number rest c at cause =
-    Until number c records (After v records, record { before = at.before; rest = rest; are = at.are; few = omega (arith, at.few, at.numbered); begins = at.begins; cause = subst (λ (n : ℕ). RecordCause f v n rest c) at.numbered cause }, at.numbered, refl)
+    Until number c records (After v records, record { before = at.before; rest = rest; are = at.are; few = omega (arith, at.few, at.numbered); begins = at.begins; cause = line_cause f (After v records) rest c (subst (λ (n : ℕ). RecordCause f v n rest c) at.numbered cause) }, at.numbered, refl)
 
 cause_by : (f : Format) (v : Version) (number : ℕ) (rest : List ℕ) (many : Bool) (whole : Line) (c : Cause) → many ≡ (nat_lt most_lines number && nat_lt 0 (length rest)) → whole ≡ whole_line f.most rest
     → CauseBy f v many whole c → RecordCause f v number rest c
@@ -67,7 +68,7 @@ ends_by f v bytes records number l rest (b ∷ later) at few short end is =
         are = record { front = at.before; behind = at.are; last = l; short = short; end = end; begins = refl };
         few = omega (arith, at.numbered);
         begins = behind_line bytes at.before l rest (b ∷ later) at.begins is;
-        cause = ((λ e. cc), refl);
+        cause = by_cause.AfterEnd refl (λ e. cc) refl;
       },
       omega (arith, at.numbered),
       refl,
@@ -107,7 +108,7 @@ reads_on f v (suc n) bytes refute = λ records number rest below at.
     reads_line f v n bytes records number rest (nat_lt most_lines number && nat_lt 0 (length rest)) (whole_line f.most rest) refl refl below at (reads_on f v n bytes refute) refute
 
 refused_at_start : (f : Format) (bytes : List ℕ) (c : Cause) → StartCause f bytes c → Reads f bytes
-refused_at_start f bytes c cause = Until 1 c [] (Start, record { before = []; rest = bytes; are = refl; few = omega arith; begins = refl; cause = cause }, refl, refl)
+refused_at_start f bytes c cause = Until 1 c [] (Start, record { before = []; rest = bytes; are = refl; few = omega arith; begins = refl; cause = line_cause f Start bytes c cause }, refl, refl)
 
 reads_first : (f : Format) (bytes : List ℕ) (whole : Line) → whole ≡ whole_line f.most bytes → IsRead f bytes
 reads_first f bytes (Err why) is_whole = λ refute.

@@ -6,8 +6,10 @@ use Rattle.er_trace.specs.declared.record.Record.{Record}
 use Rattle.er_trace.specs.declared.version.Version.{Version}
 use Rattle.er_trace.specs.Trace.{most_lines, line}
 use Rattle.er_lines.specs.Format.{Format, IsFormat}
-use Rattle.er_lines.specs.Lines.{Place, Start, After, Ended, line_number, IsShort, AreLines, AreBehind, whole_line, StartCause, RecordCause, Refuses}
-use Rattle.er_lines.proofs.OneReading.{SameFront, same_front, front_of, no_line, no_header_by, one_refusal, trace_not_refused, one_trace, SameRefusal}
+use Rattle.er_lines.specs.Lines.{Place, Start, After, Ended, line_number, IsShort, AreLines, AreBehind, LineCause, Refuses}
+use Rattle.er_lines.proofs.LineLaws.{whole_line}
+use Rattle.er_lines.proofs.CauseLaws.{RecordCause, cause_at, front_of}
+use Rattle.er_lines.proofs.OneReading.{SameFront, same_front, no_line, no_header_by, one_refusal, trace_not_refused, one_trace, SameRefusal}
 use Rattle.er_history.specs.Rules.{Rule, rules}
 use Rattle.er_run.specs.Legal.{IsLegal, end_cause_for}
 use Rattle.er_run.specs.Legal as legality
@@ -61,9 +63,9 @@ meets f good v w bytes a b p q r s first second e there =
     (version, meets_lines f good w a b first.later second.later r s (subst (λ (u : Version). AreLines f u first.later a) version first.lines) second.lines front.rest)
 
 -- a first line stands there
-no_start : (f : Format) (v : Version) (bytes front : List ℕ) (records : List Record) (rest : List ℕ) (c : Cause) → StartCause f bytes c → AreBehind f v front records → bytes ≡ front ++ rest → ⊥
+no_start : (f : Format) (v : Version) (bytes front : List ℕ) (records : List Record) (rest : List ℕ) (c : Cause) → LineCause f Start bytes c → AreBehind f v front records → bytes ≡ front ++ rest → ⊥
 no_start f v bytes front records rest c h are e =
-    no_header_by f (whole_line f.most bytes) c v are.first (are.later ++ rest) h (front_of f.most bytes are.first (are.later ++ rest) are.short (behind_line f v bytes front records rest are e)) are.header
+    no_header_by f (whole_line f.most bytes) c v are.first (are.later ++ rest) (cause_at f Start bytes c h) (front_of f.most bytes are.first (are.later ++ rest) are.short (behind_line f v bytes front records rest are e)) are.header
 
 -- in a legal list no record has a cause
 pub legal_older : (table : List (ℕ × Rule)) (newer older : List Record) → IsLegal table (newer ++ older) → IsLegal table older
@@ -138,10 +140,10 @@ no_record_at_cause f v number bytes c h few x l rest short is e = (no_line f v n
 record_not_line : (f : Format) → IsFormat f → (asked : Command) (v : Version) (bytes : List ℕ) (earlier : List Record) (x : Record) (c d : Cause) (place : Place) → Faulty f v bytes earlier x c → IsLegalBefore asked place → Refuses f bytes place d → ⊥
 record_not_line f good asked v bytes earlier x c d Start first legal second =
     let same : bytes ≡ second.rest = second.begins ∙ ap (λ b. b ++ second.rest) second.are in
-    no_start f v bytes first.front earlier (line first.l ++ first.rest) d (subst (λ (b : List ℕ). StartCause f b d) (sym same) second.cause) first.are first.begins
+    no_start f v bytes first.front earlier (line first.l ++ first.rest) d (subst (λ (b : List ℕ). LineCause f Start b d) (sym same) second.cause) first.are first.begins
 record_not_line f good asked v bytes earlier x c d (After w records) first legal second =
     let behind : Legally f w bytes records second.rest = record { front = second.before; are = second.are; begins = second.begins; legal = legal } in
-    not_legally f good v w bytes earlier records x c second.rest first behind (λ (fits : length records ≤ length earlier). no_record_at_cause f w (length records + 2) second.rest d second.cause (omega (arith, first.few)))
+    not_legally f good v w bytes earlier records x c second.rest first behind (λ (fits : length records ≤ length earlier). no_record_at_cause f w (length records + 2) second.rest d (cause_at f (After w records) second.rest d second.cause) (omega (arith, first.few)))
 record_not_line f good asked v bytes earlier x c d (Ended w records) first legal second =
     let behind : Legally f w bytes records (line second.are.last ++ second.rest) = record {
       front = second.are.front;
@@ -256,10 +258,10 @@ line_not_end_by f good v records others d l r s (Longer x more k rest short_x is
 end_not_line : (f : Format) → IsFormat f → (asked : Command) (v : Version) (bytes : List ℕ) (records : List Record) (c d : Cause) (place : Place) → RefusesEnd f asked v bytes records c → Ending f asked v bytes records (Some c) → IsLegalBefore asked place → Refuses f bytes place d → ⊥
 end_not_line f good asked v bytes records c d Start h first legal second =
     let same : bytes ≡ second.rest = second.begins ∙ ap (λ b. b ++ second.rest) second.are in
-    no_start f v bytes h.before records (line h.l ++ h.rest) d (subst (λ (b : List ℕ). StartCause f b d) (sym same) second.cause) h.are h.begins
+    no_start f v bytes h.before records (line h.l ++ h.rest) d (subst (λ (b : List ℕ). LineCause f Start b d) (sym same) second.cause) h.are h.begins
 end_not_line f good asked v bytes records c d (After w others) h first legal second =
     let both : (v ≡ w) × Meets f w records others (line h.l ++ h.rest) second.rest = meets f good v w bytes records others h.before second.before (line h.l ++ h.rest) second.rest h.are second.are h.begins second.begins in
-    line_not_end_by f good w records others d h.l h.rest second.rest both.1 h.short h.end h.few second.cause
+    line_not_end_by f good w records others d h.l h.rest second.rest both.1 h.short h.end h.few (cause_at f (After w others) second.rest d second.cause)
 end_not_line f good asked v bytes records c d (Ended w others) h first legal second = not_both f good asked v w bytes records others c first (ending_line f asked w bytes others d legal second)
 
 -- what refuses the bytes first: a line, a record, or the end

@@ -15,6 +15,7 @@ use Rattle.er_trace.specs.Trace.{line, most_lines}
 use Rattle.er_lines.specs.declared.mark.Mark.{Mark}
 use Rattle.er_lines.specs.Format.{Format, IsFormat}
 use Rattle.er_lines.specs.Lines.{Place, Start, After, Ended, line_number, records_before, AreLines, AreBehind, AreBefore, IsTrace, IsTraceOf, BeginsWith}
+use Rattle.er_lines.specs.Lines as by_cause
 use Rattle.er_lines.specs.Feed.{Stands, IsUnfinished, IsRefusedAt, IsFed}
 use Rattle.er_lines.proofs.FeedLaws.{unfinished_short}
 use Rattle.er_lines.proofs.HeaderLaws.{header_of, header_of_whole}
@@ -439,7 +440,7 @@ after_end f asked v bytes more records trace some = of_line f asked (bytes ++ mo
   are = trace.is_trace.whole;
   few = omega (arith, trace.is_trace.few);
   begins = refl;
-  cause = (some_bytes more some, refl);
+  cause = by_cause.AfterEnd refl (some_bytes more some) refl;
 })
 
 -- a byte stands behind it

@@ -127,7 +127,7 @@ pub record IsJudgedFor (asked : Command) (from to : Meters) (judged : Judged) : 
   pub compared : IsComparedFor asked judged.session from.compares to.compares
   pub tested : IsTestedFor asked judged.session from.tests to.tests
 
--- the line after these records, newest first, is refused for this cause; or memory ran out
+-- the line after these records, newest first, is refused for this cause; or an allocation failed
 abbrev pub IsEndFault : Option Cause → List Record → FeedFault → Type 0
 IsEndFault cause h (faults.Refused n c) = (n ≡ length h + 2) × (cause ≡ Some c)
 IsEndFault cause h faults.NoMemory = Unit {0}

@@ -15,7 +15,7 @@ use Rattle.er_words.specs.declared.commands.Command.{Command}
 use Rattle.er_words.specs.declared.commands.Command.TheVariants.{Check, Gen, Schedule, Explain}
 use Rattle.er_run.specs.Races.{kept, candidates, races, classes}
 
--- with the record more accesses are kept than may be
+-- with the record there are more distinct accesses than are allowed
 abbrev pub is_past_room : List Record → Record → Bool
 is_past_room h x = nat_lt most_accesses (length (kept (x ∷ h)))
 

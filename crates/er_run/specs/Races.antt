@@ -33,7 +33,7 @@ kept_of (entry ∷ older) = without_repeats (access_in entry) (kept_of older)
 abbrev pub kept : List Record → List Kept
 kept h = kept_of (told h).entries
 
--- the pairs of kept accesses that can race
+-- the candidate pairs of distinct accesses
 abbrev pub candidates : List Record → List (Kept × Kept)
 candidates h = candidates_of (kept h)
 

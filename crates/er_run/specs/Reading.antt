@@ -66,7 +66,7 @@ fault_of None = None
 fault_of (Some refused) = Some (faults.Refused refused.line refused.cause)
 
 -- a line of the bytes is refused, whatever is asked, which no further byte changes; or
--- memory ran out
+-- an allocation failed
 abbrev pub IsFinalFault : Format → List ℕ → FeedFault → Type 0
 IsFinalFault f bytes (faults.Refused n c) =
     ((asked : Command) → FirstIllegal f asked bytes n c) × (c ≢ NoEnd)

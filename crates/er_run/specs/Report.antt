@@ -15,7 +15,7 @@ use Rattle.er_explain.specs.Text as explanations
 use Rattle.er_pieces.specs.steps.Steps.{explanation}
 use Rattle.er_run.specs.Races.{kept}
 
--- the report of the edges between its actions and of its kept accesses
+-- the report of the edges between its actions and of its distinct accesses
 abbrev pub report : Version → List Record → List ℕ
 report v h = texts.report (edges (rules v) (told h).actions) (kept h)
 

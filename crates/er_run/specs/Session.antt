@@ -71,14 +71,14 @@ pub record MayTake (session : Option Session) (given : Option Version)
   pub of_version : AreGiven given records
 
 -- A record after the list is refused for the first cause against it, with its line; or
--- memory ran out.
+-- an allocation failed.
 abbrev pub IsFaultAfter : Version → List Record → Record → FeedFault → Type 0
 IsFaultAfter v h x (Refused line cause) =
     (line ≡ length h + 2) × (legality.cause (rules v) h x ≡ Some cause)
 IsFaultAfter v h x NoMemory = Unit {0}
 
 -- The record of the line is the first that has a cause after those before it, which is the one
--- answered; or memory ran out.
+-- answered; or an allocation failed.
 abbrev pub IsFaultOf : Version → List Record → FeedFault → Type 0
 IsFaultOf v records (Refused line cause) =
     (at : ℕ) × (line ≡ at + 2) × IsLegal (rules v) (reverse (take at records))
@@ -97,7 +97,7 @@ pub record AreKept (old due new : List Kept) : Type 0 where
   pub room : length old < length due → length old ≢ most_accesses
 
 -- The access is refused with its line where there is no room for it; or there is, and
--- memory ran out.
+-- an allocation failed.
 abbrev pub IsFaultOfRoom : FeedFault → Kept → List Kept → Type 0
 IsFaultOfRoom (Refused line cause) x old =
     (line ≡ x.line) × (cause ≡ TooManyAccesses) × IsFull x old

@@ -1,8 +1,17 @@
-use Rattle.std.proofs.Common.{◌≡◌, ◌∙◌, length, sym, Some, None}
+use Rattle.std.proofs.Common.{◌≡◌, ◌∙◌, length, subst, sym, Some, None}
+use Rattle.std.specs.Prelude.{Option}
 use Rattle.er_text.specs.declared.causes.Cause.TheVariants.{NoEnd}
+use Rattle.er_trace.specs.declared.fault.FeedFault.{FeedFault}
+use Rattle.er_trace.specs.declared.fault.FeedFault.TheVariants.{Refused}
+use Rattle.er_lines.specs.Feed.{Stands}
 use Rattle.er_lines.specs.Marks.{number_at}
-use Rattle.er_lines.proofs.StopLaws.{accepted, refused_end, missing, not_missing, Kept, Missing}
+use Rattle.er_lines.proofs.StopLaws.{until, accepted, refused_end, missing, not_missing, Kept, Missing}
 use Rattle.er_lines.proofs.feed.LineFeed.finish.Goals as goal
+
+pub returns-in-Some-clause-refused : goal.returns-in-Some-clause-refused
+returns-in-Some-clause-refused g c = λ n cause e bytes records stands.
+    let is : c.args.self.now.fault ≡ Some (Refused n cause) = cc in
+    (until g.L.Lines.format c.args.self.now.mark c.args.self.now.line.items bytes records n cause (subst (λ (o : Option FeedFault). Stands g.L.Lines.format c.args.self.now.mark c.args.self.now.line.items o bytes records) is stands)).1
 
 pub returns-in-Some-clause-accepts : goal.returns-in-Some-clause-accepts
 returns-in-Some-clause-accepts g c = λ version bytes list records is stands.
