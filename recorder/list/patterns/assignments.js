@@ -95,11 +95,13 @@ function isMadeOfOld(sources, place) {
 
 /**
  * Whether a write of a property might read it first, though the trace has no read: the right side has a property of this name, calls something with the
- * object, or goes on after what is known of the text.
+ * object, or goes on after what is known of the text; or the text is not known at all.
  * @param {SourceText} sources @param {Place|undefined} place
  */
 function mayReadOld(sources, place) {
-  const found = place ? assignmentAt(sources, place) : null;
+  if (!place) return false;
+  if (!sources.around(place).after) return true;
+  const found = assignmentAt(sources, place);
   if (!found?.key) return false;
   const { object, key, right, isWhole } = found;
   const isSameKey = new RegExp(`[.[]\\s*['"]?${escaped(key)}(?![\\w$])`).test(right);

@@ -164,6 +164,7 @@ const TEXTS = [
   ['S.n = S.next()', 3, false],
   ['S.n = next()', 3, true],
   ['S.n === S.n', 3, true],
+  ['', 3, false],
 ];
 
 test('what looks like it: an update whose read is not in the trace, as the text says', async () => {
