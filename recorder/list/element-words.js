@@ -47,6 +47,17 @@ class ElementWords {
   }
 
   /**
+   * The tag of an element; '' if it is unknown, or the element is none, as a document.
+   * @param {string|number} number
+   * @returns {string}
+   */
+  tagOf(number) {
+    const { tag = '', standsFor } = this.names.elements[number] || {};
+    if (standsFor) return this.tagOf(standsFor);
+    return ONCE.has(tag) ? '' : tag.toLowerCase();
+  }
+
+  /**
    * The file that an element has, as a script or an image; '' if it has none.
    * @param {string|number} number
    * @returns {string}

@@ -3,9 +3,10 @@
 // the printed report.
 
 const { ASKED } = require('./callbacks.js');
+const { OF_IDLE } = require('./fixes.js');
 const { Sides, summaryOf } = require('./sides.js');
 const { pathInFolder } = require('./places.js');
-const { APART } = require('./patterns/table.js');
+const { APART, IDLE } = require('./patterns/table.js');
 
 /**
  * @typedef {import('./listing.js').Listing} Listing
@@ -96,7 +97,7 @@ class Entries {
    * @param {Listed} line
    */
   fixOf(line) {
-    return this.toldOf(line).fix;
+    return this.listing.partOf(line) === IDLE ? OF_IDLE : this.toldOf(line).fix;
   }
 
   /** @param {Listed} line @param {Listed[]} others @returns {Entry} */

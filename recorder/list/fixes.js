@@ -4,14 +4,21 @@
 
 /** @typedef {import('./patterns/table.js').LookKey} LookKey */
 /**
- * The kind of what the race is at, whether the side that finds nothing comes from an act of the user, and whether both sides write.
- * @typedef {{kind: string, isOfUser: boolean, modes?: string}} Use
+ * The kind of what the race is at, whether the side that finds nothing comes from an act of the user, and whether both sides write. Of an event that looks for
+ * handlers: its type, and the tag of its target ('' if it is unknown).
+ * @typedef {{kind: string, isOfUser: boolean, modes?: string, type?: string, tag?: string}} Use
  */
 
 const OF_ELEMENT = 'look it up after it was added: `defer` in place of `async`, or DOMContentLoaded';
 const OF_USER = 'disable the control until it is set, or check for it first';
 const OF_VARIABLE = 'use it after it is set: wait for the load event of its script, or for a promise';
 const OF_READ = 'when code writes the field, clear the timeout and drop the reply that read it';
+const OF_IDLE = 'usually none: the handler changed nothing; to lose no event, register it after the element';
+const OF_SHOWN = 'register it in a script right after the element, or hide the element until then';
+
+/** Events that come again by themselves, and elements that a page can disable. */
+const COMES_AGAIN = /^(?:(mouse|pointer)(?:over|out|enter|leave|move|rawupdate)|focus(?:in|out)?|blur)$/;
+const CAN_BE_DISABLED = new Set(['', 'button', 'fieldset', 'input', 'optgroup', 'option', 'select', 'textarea']);
 
 /** @type {Record<LookKey, string>} */
 const FIXES = {
@@ -34,10 +41,18 @@ const FIXES = {
  * The change for a problem.
  * @param {LookKey} look @param {Use} use
  */
-function fixOf(look, { kind, isOfUser, modes = 'ww' }) {
+function fixOf(look, { kind, isOfUser, modes = 'ww', type = '', tag = '' }) {
+  if (look === 'late') return fixOfLate(type, tag);
   if (look === 'field' && modes !== 'ww') return OF_READ;
   if (look !== 'undefined') return FIXES[look];
   return isOfUser ? OF_USER : kind === 'element' ? OF_ELEMENT : OF_VARIABLE;
 }
 
-module.exports = { FIXES, fixOf };
+/** @param {string} type @param {string} tag */
+function fixOfLate(type, tag) {
+  const again = COMES_AGAIN.exec(type);
+  if (again) return `usually none: the ${again[1] ? 'pointer' : 'focus'} comes again; otherwise as for a click`;
+  return CAN_BE_DISABLED.has(tag) ? FIXES.late : OF_SHOWN;
+}
+
+module.exports = { FIXES, OF_IDLE, fixOf };

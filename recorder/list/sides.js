@@ -194,7 +194,18 @@ class Sides {
     const thing = kind === 'handler' ? this.thing(race.location) : marked(this.thing(race.location));
     const subjects = this.callbacks.subjects(race.actions[first], race.actions[1 - first]);
     const sentence = sentenceOf(look, { sides, subjects, thing, field: this.field(race.location), modes: race.modes, kind, isReplaced: this.problems.isReplaced(race) });
-    return { sentence, place: at ? this.place(at, false) : this.page(), sides, fix: fixOf(look, { kind, isOfUser: !!sides[0].act, modes: race.modes }) };
+    return { sentence, place: at ? this.place(at, false) : this.page(), sides, fix: fixOf(look, { kind, isOfUser: !!sides[0].act, modes: race.modes, ...this.targetOf(race) }) };
+  }
+
+  /**
+   * The type of the event that looks for handlers, and the tag of its target.
+   * @param {Race} race
+   */
+  targetOf({ location, modes, actions }) {
+    const reader = modes.indexOf('r');
+    if (!location.startsWith('slot ') || reader < 0) return {};
+    const { words: [word, , element, type] } = this.words.actions.list[this.firstOf(actions[reader])];
+    return EVENTS.has(word) ? { type: this.words.unescape(type), tag: word === 'wfire' ? '' : this.elements.tagOf(element) } : {};
   }
 
   /** @param {Race} race @param {number} first @returns {[Side, Side]} */

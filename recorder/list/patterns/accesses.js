@@ -4,12 +4,10 @@
 
 const { FIRST_MODULE } = require('../../common/numbers.js');
 const { isOfTree } = require('../../races/spelled-locations.js');
+const { isMadeOfOld, mayReadOld } = require('./assignments.js');
 
 /** Values of a flag: a letter for numbers, and one digit. */
 const FLAG = /^(?:true|false|-|null|\?|n\w+1)$/;
-/** An assignment that uses the old value, from the name of the variable on; and the sign of a count before the name. */
-const UPDATE = /^[\w$]+\s*(?:\+\+|--|(?:\*\*|<<|>>>?|[-+*/%&|^])=(?!=))/;
-const COUNT_BEFORE = /(?:\+\+|--)\s*(?:[\w$]+\.)*$/;
 /** So many actions write a scratch value, at least. */
 const FEWEST_WRITERS = 3;
 
@@ -220,7 +218,7 @@ class Accesses {
   }
 
   /**
-   * Whether a write makes the new value of the old one (`x++`, `x += 1`), so that it keeps what another action wrote.
+   * Whether a write makes the new value of the old one (`x++`, `x += 1`, `x = x + 1`), so that it keeps what another action wrote.
    * @param {number} line @param {number} action @param {string} location
    */
   isUpdate(line, action, location) {
@@ -228,8 +226,7 @@ class Accesses {
     if (this.isCountAt(line)) return true;
     const place = this.places[line];
     if (!place) return false;
-    const { before, after } = this.sources.around(place);
-    if (UPDATE.test(after) || COUNT_BEFORE.test(before)) return true;
+    if (isMadeOfOld(this.sources, place)) return true;
     return this.inAction(location, action).some((one) => !one.isWrite && one.line < line && String(this.places[one.line]) === String(place));
   }
 
@@ -289,7 +286,7 @@ class Accesses {
     /** @type {Set<number>} */
     const writers = new Set();
     for (const { line, action, isWrite } of this.of(location)) {
-      if (isWrite && this.isUpdate(line, action, location)) return false;
+      if (isWrite && (this.isUpdate(line, action, location) || mayReadOld(this.sources, this.places[line]))) return false;
       if (isWrite || this.kept[line]) writers.add(action);
       else if (writers.size && !writers.has(action)) return false;
     }

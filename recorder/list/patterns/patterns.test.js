@@ -148,6 +148,35 @@ test('what looks like it: a read of what another action wrote, a sum, two action
   assert.ok(!(await patternsAt(timers([[`w ${S}`, WRITE]]).map(([line, ...rest]) => [line.replace(S, 'var 0 type'), ...rest]), 'var 0 type', ACT)).includes('scratch'), 'a global variable is the page\'s');
 });
 
+/** @type {[text: string, column: number, isScratch: boolean][]} writes of a property, and whether none reads the old value */
+const TEXTS = [
+  ['function pulse() { S.n = (S.n + 1) % 4; setTimeout(pulse, 60 + S.n * 7); }', 22, false],
+  ['S.n = 1; S.m = S.n + 1', 3, true],
+  ['S.n=1,S.m=S.n', 3, true],
+  ['S["n"] = 1 + S["n"]', 3, false],
+  ['S[k] = f(S[k])', 3, false],
+  ['S.n = [...S.n, x]', 3, false],
+  ['S.n = one\n  ? S.n : 1', 3, false],
+  ['S.n = 1\nS.m = S.n', 3, true],
+  ['S.n = {', 3, false],
+  ['event.n = n', 7, true],
+  ['S.n = T.n', 3, false],
+  ['S.n = S.next()', 3, false],
+  ['S.n = next()', 3, true],
+  ['S.n === S.n', 3, true],
+  ['', 3, false],
+];
+
+test('what looks like it: an update whose read is not in the trace, as the text says', async () => {
+  for (const [text, column, isScratch] of TEXTS) {
+    const files = [{ address: 'http://localhost/app.js', text: `\napp.active = 1;\n${text}\n` }];
+    const looks = await patternsAt(timers([[`w ${S}`, [0, 3, column]]]), S, { ...ACT, files });
+    assert.strictEqual(looks.includes('scratch'), isScratch, `${text}: ${looks}`);
+  }
+  const overAct = (/** @type {string} */ text) => patternsAt(actAndTimeout([[`w ${S}`, WRITE]], [[`w ${S}`, [0, 3, 3]]]), S, { ...ACT, files: [{ address: 'http://localhost/app.js', text: `\napp.active = 1;\n${text}\n` }] });
+  assert.deepStrictEqual([await overAct('S.n = S.n + 1'), await overAct('S.n = T.n'), await overAct('S.n = "S.n"')], [['other'], ['act'], ['act']], 'an update keeps what the act wrote; a doubt does not make it one');
+});
+
 const FIELD = `var ${FIRST_FIELD + 1} value`;
 const TYPED = /** @type {Lines} */ ([['parse 0 1 plain'], ['parse 0 2 inline'], ['exec 2'], ['on 1'], ['w slot 1 keydown'], ['fire 1 1 input'], [`w ${FIELD}`], ['set 1 0'], ['close 1']]);
 /**
