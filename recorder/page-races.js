@@ -175,7 +175,7 @@ async function listRuns(call, runs, known, recorder, incomplete) {
   const hasReplays = isToReplay(call, listing, recorder);
   const replayed = hasReplays ? await replayRaces(recorder, { ...options, name: 'er_page' }, files[0], { report, model, linked, listing }) : STATUS.ok;
   if (call.mayReplay && !hasReplays) writePage(files[0], await linked);
-  tellLines(listing, options, !incomplete, doneIn(recorder));
+  tellLines(listing, options, !incomplete, { done: doneIn(recorder), unserved: recorder.responses?.unserved });
   writeOutputs(listing, options, { page: redacted(given), status, files, folder: servedFolder(call) });
   const others = [...hasReplays ? ['page.replay.json'] : [], ...runs.length > 1 ? [`runs/2 to runs/${runs.length}`] : []];
   const printLine = options.isJson ? printError : print;

@@ -150,6 +150,7 @@ class ReplayCommand {
       if (!(fault instanceof RecordingFault)) throw fault;
       const isOver = limit.isReached && isStop(fault);
       this.complain(isOver ? `replays ended after ${LONGEST_BY_ITSELF / 1000} s, with ${this.results.length} of ${this.numbers().length} races done; --replay does all` : fault.message);
+      if (isOver) this.listing.entries.notReplayedWords = `no (${LONGEST_BY_ITSELF / 1000} s were over; --replay does all)`;
       status = isOver ? STATUS.ok : fault.status;
     } finally {
       limit.end();
@@ -214,7 +215,9 @@ class ReplayCommand {
 
   /** What is printed about all replayed races, and is in the file of verdicts. */
   lines() {
-    if (!this.results.length) return ['No race was run again to the end.'];
+    const requested = this.numbers().length;
+    const races = `${requested} race${requested === 1 ? '' : 's'}`;
+    if (!this.results.length) return [`Replayed 0 of ${races}.`];
     const lines = ['Run again in the other order:'];
     let part = '';
     for (const { number, result } of this.results) {
@@ -228,7 +231,7 @@ class ReplayCommand {
     }
     /** @param {string} verdict */
     const count = (verdict) => this.results.filter(({ result }) => verdictOf(result) === verdict).length;
-    return [...lines, `Of ${this.results.length}: ${count('differs')} differ, ${count('not')} could not be turned, ${count('same')} have no visible difference.`];
+    return [...lines, `Replayed ${this.results.length} of ${races}: ${count('differs')} differ, ${count('not')} could not be turned, ${count('same')} have no visible difference.`];
   }
 
   /**

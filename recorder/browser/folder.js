@@ -28,6 +28,8 @@ const ORIGIN = 'http://localhost';
 const LARGEST_FILE = 256 * 1024 * 1024;
 /** The only name with a dot at its start that is served. */
 const WELL_KNOWN = '.well-known';
+/** Why a link that leaves the folder is not served. */
+const OUTSIDE = 'files of the folder that are links to other places';
 /** A page, as a request for one names it. */
 const ACCEPTS_PAGE = /\btext\/html\b/i;
 
@@ -158,7 +160,7 @@ class Folder {
   read(file) {
     const real = fs.realpathSync(file);
     const inside = path.relative(this.realRoot, real);
-    if (isOutside(inside)) throw new Refusal('files of the folder that are links to other places');
+    if (isOutside(inside)) throw new Refusal(OUTSIDE);
     if (file !== this.page && [inside, path.relative(this.root, file)].some(isHidden)) throw new Refusal('files of the folder with a dot at the start of their name');
     const type = TYPES.get(path.extname(file).toLowerCase()) || 'application/octet-stream';
     return { status: 200, type, body: readRegular(real) };
@@ -226,4 +228,4 @@ function resolveAddress(given, root, options) {
   return { address: `${isFolder && !address.endsWith('/') ? `${address}/` : address}${search}`, folder, credentials: null, warning };
 }
 
-module.exports = { Folder, resolveAddress, fileAddress, ORIGIN, LARGEST_FILE };
+module.exports = { Folder, resolveAddress, fileAddress, ORIGIN, OUTSIDE, LARGEST_FILE };

@@ -123,6 +123,8 @@ class Responses {
   get hasPageBegun() { return this.copies.hasPageBegun; }
   /** The addresses of files that are not in the folder. */
   get failures() { return this.files ? this.files.failures : []; }
+  /** The scripts and the pages of frames that are not in the folder, in words, or ''. */
+  get unserved() { return this.files?.unserved.inWords() || ''; }
 
   /** How many requests have an end that is waited for. */
   openRequests() {
@@ -135,7 +137,7 @@ class Responses {
     const refused = [...(this.files?.refused || [])].map(([what, count]) => `${what}, not served: ${count}`);
     const waits = this.log.open.size - this.log.working().size;
     const polls = waits ? [`what comes of requests that had no answer for long: ${waits}`] : [];
-    return [...refused, ...polls, ...(this.steps.notFollowed ? [`steps to another page not followed: ${this.steps.notFollowed}`] : [])];
+    return [...this.files?.unserved.lines() || [], ...refused, ...polls, ...(this.steps.notFollowed ? [`steps to another page not followed: ${this.steps.notFollowed}`] : [])];
   }
 
   // ---- one event

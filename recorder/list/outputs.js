@@ -26,9 +26,9 @@ const PLAIN = { hasColor: false, width: 100, isTerminal: false };
  * @param {Listing} listing
  * @param {boolean} isComplete false if the recording lacks something of what was to be recorded
  * @param {Style} style
- * @param {string} done what was done in the page, for a list without a race
+ * @param {{done?: string, unserved?: string}} facts what was done in the page, and what of it was not served, for a list without a race
  */
-function linesOf(listing, isComplete = true, style = PLAIN, done = '') {
+function linesOf(listing, isComplete = true, style = PLAIN, facts = {}) {
   const told = listing.told();
   const lines = told.length > 1 ? wrapped(countsOf(listing), style.width, '    ') : [];
   let part = '';
@@ -40,9 +40,20 @@ function linesOf(listing, isComplete = true, style = PLAIN, done = '') {
     part = own;
     lines.push(...linesOfEntry(listing.entryOf(line, others), style), '');
   });
-  const none = listing.known && listing.problems.length ? 'No race that is not known' : 'No race';
-  if (!told.length) lines.push(`${none}${isComplete ? '' : ' in what was recorded, which is not complete'}.${done && ` Done in the page: ${done}.`}`);
+  if (!told.length) lines.push(noneInWords(listing, isComplete, facts));
   return [...lines, ...knownLines(listing), ...librariesLine(listing)];
+}
+
+/**
+ * The line of a list without a race.
+ * @param {Listing} listing
+ * @param {boolean} isComplete
+ * @param {{done?: string, unserved?: string}} facts
+ */
+function noneInWords(listing, isComplete, { done = '', unserved = '' }) {
+  const none = listing.known && listing.problems.length ? 'No race that is not known' : 'No race';
+  const recorded = isComplete ? none : `${none} in what was recorded, which is not complete`;
+  return `${recorded}${unserved && (isComplete ? `, but ${unserved}` : `; ${unserved}`)}.${done && ` Done in the page: ${done}.`}`;
 }
 
 /** @param {Listing} listing */
@@ -98,12 +109,12 @@ function librariesLine({ runs }) {
  * @param {Listing} listing
  * @param {OutputOptions} options
  * @param {boolean} isComplete
- * @param {string} done what was done in the page
+ * @param {Parameters<typeof noneInWords>[2]} [facts]
  */
-function tellLines(listing, options, isComplete = true, done = '') {
+function tellLines(listing, options, isComplete = true, facts = {}) {
   if (options.isJson) return;
   const style = styleOf(process.stdout, process.env, options.color);
-  linesOf(listing, isComplete, style, done).forEach((line) => printStyled(line));
+  linesOf(listing, isComplete, style, facts).forEach((line) => printStyled(line));
   if (style.isTerminal && listing.told().length) printStyled(HELP);
 }
 

@@ -212,3 +212,18 @@ test('a folder is opened at /, and --fallback answers for its routes', LIMIT, as
   assert.strictEqual(routed.status, 0, routed.stderr);
   assert.match(routed.stderr, /error: Error: at \/shop\/cart \(/);
 });
+
+test('scripts and pages of frames that the folder does not have', LIMIT, async () => {
+  const site = path.join(folder, 'lacking');
+  fs.mkdirSync(site);
+  const scripts = ['gone.js', 'gone.js?again', 'away.js', 'there.js'].map((name) => `<script src="${name}"></script>`).join('');
+  fs.writeFileSync(path.join(site, 'index.html'), `<!doctype html><title>s</title>${scripts}<iframe src="frame.html"></iframe><img src="gone.png">`);
+  fs.writeFileSync(path.join(site, 'there.js'), 'var there = 1;');
+  fs.writeFileSync(path.join(folder, 'away.js'), 'var away = 1;');
+  fs.symlinkSync(path.join(folder, 'away.js'), path.join(site, 'away.js'));
+  const { status, stdout, stderr } = await call('er_page', path.join(site, 'index.html'));
+  assert.strictEqual(status, 0, stderr);
+  assert.match(stderr, /^ {2}not recorded: scripts and pages of frames, not served: 3, 1 of them a link to another place \(gone\.js, away\.js, \.\.\): --root DIR, with a folder that has them$/m);
+  assert.strictEqual(stderr.match(/not served/g)?.length, 1, stderr);
+  assert.match(stdout, /^No race, but 3 files of the page were not served \(gone\.js, away\.js, \.\.\): --root DIR, with a folder that has them\. Done in the page: nothing clicked/m);
+});

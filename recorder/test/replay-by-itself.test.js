@@ -49,6 +49,38 @@ test('the first five races are replayed, and the server gets each request once',
   assert.deepStrictEqual(asked.filter((one) => / \/(reads|data)$/.test(one)), ['GET /reads', 'GET /data']);
 });
 
+/** Loaded into the command: the time is over when one race is replayed, and the others need another run. */
+const LIMIT_AFTER_ONE = `
+const { Replay } = require(${JSON.stringify(path.join(TOP, 'recorder/replay/replay.js'))});
+const { LONGEST_BY_ITSELF } = require(${JSON.stringify(path.join(TOP, 'recorder/replay-by-itself.js'))});
+const { setTimeout: start } = globalThis;
+let end = () => {};
+globalThis.setTimeout = (made, delay, ...rest) => {
+  if (delay === LONGEST_BY_ITSELF && /isReached/.test(made)) end = made;
+  return start(made, delay, ...rest);
+};
+const { reverse } = Replay.prototype;
+let isOver;
+const over = new Promise((resolve) => { isOver = resolve; });
+let count = 0;
+Replay.prototype.reverse = async function (race, number) {
+  if (count++) await over;
+  const result = await reverse.call(this, race, number);
+  start(() => { end(); isOver(); }, 100);
+  return result;
+};`;
+
+test('replays that end after the time say so, and of how many', LIMIT, async () => {
+  const file = path.join(folder, 'limit.js');
+  fs.writeFileSync(file, LIMIT_AFTER_ONE);
+  const { status, stdout, stderr } = await run(path.join(TOP, 'er_page'), [`${origin}/reads`], { cwd: folder, longest: 180000, env: { ...process.env, ER_CLI: PROGRAM, NODE_OPTIONS: `--require ${file}` } });
+  assert.strictEqual(status, 1, stderr);
+  assert.match(stderr, /^er_page: replays ended after 60 s, with 1 of 5 races done; --replay does all$/m);
+  assert.match(stdout, /^Replayed 1 of 5 races: \d differ, \d could not be turned, \d have no visible difference\.$/m);
+  assert.strictEqual(stdout.match(/^ {4}replayed: no \(60 s were over; --replay does all\)$/gm)?.length, 6, stdout);
+  assert.ok(!stdout.includes('--most N'), stdout);
+});
+
 test('races that are known are not replayed, nor is any with --no-replay', LIMIT, async () => {
   const written = await page(`${origin}/reads`, '--known', 'races.known', '--write-known');
   assert.ok(!/run again in the other order/.test(written.stderr), written.stderr);

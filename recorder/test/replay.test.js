@@ -167,7 +167,7 @@ for (const atOnce of ['1', '4']) {
     command.kill('SIGINT');
     assert.strictEqual(await command.ended, 130, command.said);
     assert.match(command.said, /er_page: stopped/);
-    assert.match(command.output, /^Of 1: 0 differ, 0 could not be turned, 1 have no visible difference\.$/m);
+    assert.match(command.output, /^Replayed 1 of 3 races: 0 differ, 0 could not be turned, 1 have no visible difference\.$/m);
     const races = replayedIn(path.join(place, 'races.races'));
     assert.deepStrictEqual(races.map(({ verdict, effect }) => [verdict, effect]), [['turned', undefined]]);
     const view = fs.readFileSync(path.join(place, 'races.races', 'page.html'), 'utf8');
@@ -184,7 +184,7 @@ test('Ctrl-C before a replay has ended: a line says so', { timeout: LONGEST }, a
   while (!command.said.includes('Each of 2 run again') && command.exitCode === null) await new Promise((resolve) => setTimeout(resolve, 20));
   command.kill('SIGINT');
   assert.strictEqual(await command.ended, 130, command.said);
-  assert.match(command.output, /^No race was run again to the end\.$/m);
+  assert.match(command.output, /^Replayed 0 of 2 races\.$/m);
   assert.match(command.output, /^2 problems \(.*\); the view is /m);
   assert.deepStrictEqual(replayedIn(path.join(place, 'races.races')), []);
   assert.doesNotMatch(fs.readFileSync(path.join(place, 'races.races', 'page.html'), 'utf8'), /by what the other order does/);

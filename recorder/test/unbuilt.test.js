@@ -92,7 +92,7 @@ test('a program without proofs answers at once: the paths of a view, and why', {
 test('a program without proofs answers replays, and they are said not to be proved', { timeout: LONGEST_TEST }, async () => {
   const { status, stdout, stderr } = await callPlain('er_page', ['examples/shop/index.html', '--replay', '--most', '1', '--slow', '300', '--do', 'early click:#add']);
   assert.strictEqual(status, 1, stderr);
-  assert.match(stdout, /^Of 1: /m);
+  assert.match(stdout, /^Replayed 1 of 1 race: /m);
   assert.match(stderr, PLAIN);
   assert.strictEqual(stderr.match(/NOT PROVED/g)?.length, 1, stderr);
   const own = path.join(plain, 'shop.races');

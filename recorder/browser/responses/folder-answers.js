@@ -2,6 +2,7 @@
 // Answers requests for files of the folder that is served. No such request goes on to the network, whatever fails here.
 
 const { isKept } = require('./kept-answers.js');
+const { Unserved } = require('./unserved.js');
 const { withoutHash } = require('../../common/request-address.js');
 
 /** @typedef {import('./paused.js').Paused} Paused */
@@ -26,8 +27,9 @@ class FolderAnswers {
      * @type {string[]}
      */
     this.failures = [];
+    this.unserved = new Unserved(folder);
     /**
-     * How many requests were refused, by the reason.
+     * How many other requests were refused, by the reason.
      * @type {Map<string, number>}
      */
     this.refused = new Map();
@@ -47,7 +49,8 @@ class FolderAnswers {
       ownHeaders.push({ name: 'location', value: answer.location });
     }
     if (answer.status === 404) this.failures.push(withoutHash(url));
-    if (answer.refused) this.refused.set(answer.refused, (this.refused.get(answer.refused) || 0) + 1);
+    const isUnserved = !this.steps.isOfPage(event) && this.unserved.note(event, answer);
+    if (answer.refused && !isUnserved) this.refused.set(answer.refused, (this.refused.get(answer.refused) || 0) + 1);
     await this.copies.fulfill(event, answer.status, ownHeaders, answer.type, answer.body);
     return true;
   }
