@@ -10,12 +10,13 @@ const { tableOf, takeOptions, writeSection } = require('./measured-pages.js');
 
 /**
  * @typedef {import('./corpus/types').Loads} Loads
- * @typedef {{page: string, without: number, with: number, idle: number, unit: string}} Cost of a page or a loop; `idle` is NaN if it is not known
+ * @typedef {{page: string, without: number, with: number, idle: number, unit: string, times?: number}} Cost of a page or a loop; `idle` is NaN if it is not known,
+ *   and `times` is there if it was printed
  */
 
 const HEAD = ['Recorder', 'Of', 'Without (median)', 'With (median)', 'Times as much (median)', 'Nine of ten at most', 'Most', 'At most 1.3 times', 'At most 2.0 times', 'Idle processors (median)'];
-/** The lines of the tools: name, figure without the recorder, unit, figure with it. */
-const PRINTED = [/^(.+?): .*?([\d.]+) (s) without, ([\d.]+) s with: /, /^(.+?): without ([\d.]+) (MB), .*objects ([\d.]+) MB: /];
+/** The lines of the tools: name, figure without the recorder, unit, figure with it, times as much (of figures that are not rounded). */
+const PRINTED = [/^(.+?): .*?([\d.]+) (s) without, ([\d.]+) s with: ([\d.]+)/, /^(.+?): without ([\d.]+) (MB), .*objects ([\d.]+) MB: ([\d.]+)/];
 
 /** As record-page.js names them. */
 const OF_LOADS = '.loads.json';
@@ -39,7 +40,7 @@ const median = (numbers) => quantile(numbers, 0.5);
  */
 function printedIn(file) {
   const found = fs.readFileSync(file, 'utf8').split('\n').map((line) => PRINTED.map((pattern) => pattern.exec(line)).find(Boolean));
-  return found.flatMap((one) => (one ? [{ page: one[1], without: Number(one[2]), with: Number(one[4]), idle: NaN, unit: one[3] }] : []));
+  return found.flatMap((one) => (one ? [{ page: one[1], without: Number(one[2]), with: Number(one[4]), idle: NaN, unit: one[3], times: Number(one[5]) }] : []));
 }
 
 /**
@@ -59,6 +60,9 @@ function loadsIn(folder) {
   });
 }
 
+/** @param {Cost} cost */
+const timesOf = (cost) => cost.times ?? cost.with / cost.without;
+
 /** @param {Cost[]} costs */
 function idleOf(costs) {
   const known = costs.map(({ idle }) => idle).filter((one) => !Number.isNaN(one));
@@ -70,7 +74,7 @@ function idleOf(costs) {
  * @param {Cost[]} costs
  */
 function rowOf(name, costs) {
-  const ratios = costs.map((one) => one.with / one.without);
+  const ratios = costs.map(timesOf);
   const upTo = (/** @type {number} */ most) => ratios.filter((one) => one <= most).length;
   const figures = [median(costs.map((one) => one.without)), median(costs.map((one) => one.with)), median(ratios), quantile(ratios, 0.9), Math.max(...ratios)];
   return [name, costs.length, ...figures.map((one) => one.toFixed(2)), upTo(1.3), upTo(2), idleOf(costs)];
@@ -82,7 +86,7 @@ function rowOf(name, costs) {
  * @param {Set<string>} common
  */
 function pagesOf(sets, common) {
-  const cell = (/** @type {Cost|undefined} */ one) => (one ? `${one.without.toFixed(2)}, ${one.with.toFixed(2)}: ${(one.with / one.without).toFixed(1)}` : '');
+  const cell = (/** @type {Cost|undefined} */ one) => (one ? `${one.without.toFixed(2)}, ${one.with.toFixed(2)}: ${timesOf(one).toFixed(1)}` : '');
   const rows = [...common].sort().map((page) => [page, ...sets.map(({ costs }) => cell(costs.find((one) => one.page === page)))]);
   return tableOf(['Page or loop', ...sets.map(({ name, costs }) => `${name}: without, with (${costs[0].unit}), times`)], rows);
 }
