@@ -78,17 +78,15 @@ function itemOf({ application, look, place, summary, judgement, lost, why }) {
 
 /**
  * The judgements in sum, by section, and each with its sentence.
- * @param {DoneLine[]} lines
  * @param {Judgements} judgements
  */
-function judgementText(lines, { seed, problems }) {
+function judgementText({ seed, problems }) {
   const judged = problems.filter(({ judgement }) => judgement);
   if (!judged.length) return 'None is judged yet.';
   const parts = [...new Set(judged.map(({ part }) => part))];
   const bySection = parts.map((part) => [part, ...Object.keys(WORDS).map((key) => judged.filter((one) => one.part === part && one.judgement === key).length)]);
-  const listed = lines.flatMap(({ problems: own }) => own).filter(({ part }) => part !== APART).length;
   return [
-    `${problems.length} problems are drawn by the seed ${seed} from ${listed} lines that are not two acts of a user; ${judged.length} are judged.`,
+    `${problems.length} problems were drawn by the seed ${seed} from lists of the time of the draw, except lines of two acts of a user; ${judged.length} are judged.`,
     tableOf(['Of the judged problems', 'Share'], rowsOf(judged)),
     tableOf(['Section', 'Harmful', 'Harmless', 'Cannot happen'], bySection),
     judged.map(itemOf).join('\n'),

@@ -62,7 +62,7 @@ test('acts against each other are not drawn, and what was judged stays', () => {
   assert.deepStrictEqual(faultsOf(drawn), ['app, aa: why is not said', 'app, aa: which order is lost is not said']);
   Object.assign(drawn.problems[0], { lost: 'an order', why: 'a reason' });
   assert.deepStrictEqual(draw([lineOf()], drawn), drawn);
-  assert.match(judgementText([lineOf()], drawn), /\| cannot happen in a browser \| 1 of 1 \(100 %\) \|/);
+  assert.match(judgementText(drawn), /\| cannot happen in a browser \| 1 of 1 \(100 %\) \|/);
 });
 
 test('the document has a row of each application', () => {

@@ -106,7 +106,7 @@ function documentOf(lines) {
     `${ABOUT} Sections, in this order: ${SECTIONS.join('; ')}.`,
     tableOf(HEAD, done.map(rowOf)),
     '## Problems, judged by hand',
-    judgementText(done, JSON.parse(fs.readFileSync(JUDGEMENTS, 'utf8'))),
+    judgementText(JSON.parse(fs.readFileSync(JUDGEMENTS, 'utf8'))),
     '## Bugs, confirmed in a browser without the recorder',
     bugTable(done),
     '## What the recordings reported',
