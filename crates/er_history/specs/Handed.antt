@@ -45,7 +45,7 @@ pub record HasHanded (family : List (ℕ × Rule)) (joined : ℕ → ℕ → Boo
   pub grown : new ≡ old ++ handed
   pub are_handed : AreHanded family joined h x handed
 
--- memory ran out: they have grown by some of the sources
+-- an allocation failed: they have grown by some of the sources
 pub record HasHandedSome (family : List (ℕ × Rule)) (joined : ℕ → ℕ → Bool) (h : History)
     (x : Record) (old : List ℕ) (new : List ℕ) : Type 0 where
   pub handed : List ℕ

@@ -145,24 +145,7 @@ not_script h x = by (claims x)
   where
     by : Claims → Bool
     by (StartsScript e) = not (is_script (first_to (makes_element e) h.entries))
-    by (StartsTimeout t) = false
-    by (StartsMessage m) = false
-    by (StartsAnim a) = false
-    by (StartsJob j) = false
-    by (StartsDispatch p) = false
-    by (StartsDcl p d) = false
-    by (StartsLoad p d) = false
-    by (StartsEload p e) = false
-    by ClaimsNone = false
-    by (MakesElement e) = false
-    by (MakesFrame e f) = false
-    by (MakesHandler x) = false
-    by (MakesTimeout t) = false
-    by (MakesInterval i) = false
-    by (MakesRequest r) = false
-    by (MakesMessage m) = false
-    by (MakesAnim a) = false
-    by (MakesJob j) = false
+    by _ = false
 
 abbrev pub has_open : List Open → Bool
 has_open [] = false
@@ -247,11 +230,7 @@ too_deep h x = by (nesting x)
   where
     by : Nesting → Bool
     by Called = not (nat_lt (length (inline_open h.stack)) most_inline)
-    by Note = false
-    by Alone = false
-    by OutsideInline = false
-    by (Under p) = false
-    by (Behind p) = false
+    by _ = false
 
 -- the first limit that the record would pass
 abbrev pub room : List Record → Record → Option Cause
