@@ -2,21 +2,18 @@
 // A Chromium that another program drives: what its first tab loads is recorded, and how such a recording ends.
 
 const assert = require('node:assert');
-const { spawn } = require('node:child_process');
 const { createHash } = require('node:crypto');
 const fs = require('node:fs');
 const http = require('node:http');
-const net = require('node:net');
 const path = require('node:path');
 const { after, before, test } = require('node:test');
-const { AttachedChromium, AttachedTab } = require('../browser/attached.js');
 const { sleep } = require('../common/time.js');
 const { PROGRAM } = require('../races/program.js');
 const { run, start, temporaryFolder } = require('./cleanup.js');
+const { freePort, load, startDriven, waitFor } = require('./driven-browser.js');
 const { listen, serveFolder } = require('./server.js');
 
 const TOP = path.join(__dirname, '..', '..');
-const CHROMIUM = process.env.CHROMIUM || '/usr/bin/chromium';
 const LIMIT = { timeout: 120000 };
 const LONGEST_RUN = 90000;
 /** @typedef {import('../browser/tab.js').Tab} Tab */
@@ -30,44 +27,6 @@ before(async () => {
   address = server.addressOf('http://localhost/index.html');
 });
 after(() => server.close());
-
-async function freePort() {
-  const one = net.createServer();
-  const port = await listen(one);
-  await new Promise((resolve) => one.close(resolve));
-  return port;
-}
-
-/**
- * Waits until there is something.
- * @template T
- * @param {() => T|null|false|Promise<T|null|false>} find
- * @param {string} what
- * @returns {Promise<T>}
- */
-async function waitFor(find, what) {
-  for (let k = 0; k < 600; k++) {
-    const found = await find();
-    if (found) return found;
-    await sleep(100);
-  }
-  throw new Error(`waited in vain for ${what}`);
-}
-
-/**
- * A browser that this test drives over its port, as a driver does.
- * @param {string} name
- */
-async function startDriven(name) {
-  const port = await freePort();
-  const words = ['--headless', '--no-sandbox', '--disable-gpu', '--no-first-run', `--remote-debugging-port=${port}`, `--user-data-dir=${path.join(folder, name)}`, 'about:blank'];
-  const browser = spawn(CHROMIUM, words, { stdio: 'ignore' });
-  process.on('exit', () => browser.kill('SIGKILL'));
-  const driver = await waitFor(() => AttachedChromium.connect({ host: '127.0.0.1', port }).catch(() => null), 'the browser');
-  const tab = await waitFor(() => AttachedTab.first(driver).catch(() => null), 'its tab');
-  await tab.send('Page.enable');
-  return { port, driver, tab, end: () => driver.send('Browser.close').catch(() => {}) };
-}
 
 /**
  * @param {number} port
@@ -83,16 +42,6 @@ async function attach(port, name, words = []) {
 
 /**
  * @param {Tab} tab
- * @param {string} to
- */
-async function load(tab, to) {
-  const loaded = new Promise((resolve) => tab.on('Page.loadEventFired', resolve));
-  await tab.send('Page.navigate', { url: to });
-  await loaded;
-}
-
-/**
- * @param {Tab} tab
  * @param {string} selector
  */
 async function click(tab, selector) {
@@ -104,7 +53,7 @@ async function click(tab, selector) {
 const lines = (file) => fs.readFileSync(file, 'utf8').trimEnd().split('\n');
 
 test('what a driver loads and clicks, until it ends the browser', LIMIT, async () => {
-  const { port, tab, end } = await startDriven('clicks');
+  const { port, tab, end } = await startDriven(folder, 'clicks');
   const { file, recorder } = await attach(port, 'clicks');
   await load(tab, address);
   await click(tab, '#add');
@@ -122,7 +71,7 @@ test('what a driver loads and clicks, until it ends the browser', LIMIT, async (
 });
 
 test('another page in its place, a second recorder, a driver that loads nothing, a tab that goes away', LIMIT, async () => {
-  const { port, tab, driver, end } = await startDriven('ends');
+  const { port, tab, driver, end } = await startDriven(folder, 'ends');
   const left = await attach(port, 'left');
   const second = await attach(port, 'second');
   assert.strictEqual(await second.recorder.ended, 5, second.recorder.said);
@@ -171,7 +120,7 @@ test('a page of this machine can send requests and open sockets to another port 
   fs.writeFileSync(path.join(site, 'index.html'), `<!doctype html><title>p</title><script>${script}</script>`);
   const own = await serveFolder(site);
   t.after(() => own.close());
-  const driven = await startDriven('ports-browser');
+  const driven = await startDriven(folder, 'ports-browser');
   t.after(() => driven.end());
   const { recorder } = await attach(driven.port, 'ports');
   await load(driven.tab, own.addressOf('http://localhost/index.html'));
