@@ -5,7 +5,7 @@ const LOSES = 'loses what a user does';
 const THROWS = 'may throw';
 const REST = 'other';
 const HARMLESS = 'often harmless';
-/** The section of late handlers that ran in the recording, and of which it has nothing but reads. */
+/** The section of late handlers that ran in the recording and changed nothing in it, and without which a user loses little (idle.js). */
 const IDLE = 'late handlers that changed nothing recorded';
 /** The section of two acts of a user against each other: a page is not at fault for their order. */
 const APART = 'another input, not another order';
@@ -30,7 +30,8 @@ const LOOKS = {
 /** @typedef {keyof typeof LOOKS} LookKey */
 /**
  * A pattern as it was found in a race: `seen` says in words what was seen, and `here` which of the two orders the recording had; `rank` is its index in the
- * table. `detail` tells races of a pattern apart that do harm more often than others (list/rank.js). `isIdle`: the handler ran, and changed nothing.
+ * table. `detail` tells races of a pattern apart that do harm more often than others (list/rank.js). `isIdle`: the handler ran, changed nothing, and is of little
+ * use to a user (idle.js).
  * @typedef {{look: LookKey, rank: number, name: string, part: string, seen: string, here: string, detail: Detail, isIdle: boolean}} Look
  */
 /** @typedef {''|'choosing'|'element'|'read'} Detail an event by which a user chooses something is lost; an element is looked up; a field is read, not written again */
@@ -59,7 +60,7 @@ const known = new Map();
  * @param {LookKey} look @param {Detail} detail @returns {Look}
  */
 function lookOf(look, seen = '', detail = '', isIdle = false) {
-  const key = `${look} ${detail} ${seen}`;
+  const key = `${look} ${detail} ${isIdle} ${seen}`;
   let one = known.get(key);
   const here = /(?:^|[;:] )here (.*)$/.exec(seen)?.[1] || '';
   if (!one) known.set(key, one = { look, rank: RANKS.indexOf(look), ...LOOKS[look], seen, here, detail, isIdle });
