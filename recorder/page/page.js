@@ -27,6 +27,7 @@ import { Calls } from './events/calls.js';
 import { Capturing } from './events/capturing.js';
 import { Causes } from './events/causes.js';
 import { Dispatches } from './events/dispatches.js';
+import { Guards } from './events/guards.js';
 import { Handlers } from './events/handlers.js';
 import { Media } from './events/media.js';
 import { Messages } from './events/messages.js';
@@ -46,6 +47,8 @@ import { Callbacks } from './tasks/callbacks.js';
 import { Chaos } from './tasks/chaos.js';
 import { Clock } from './tasks/clock.js';
 import { Connections } from './tasks/connections.js';
+import { EarlierReactions } from './tasks/earlier-reactions.js';
+import { EndedRequests } from './tasks/ended-requests.js';
 import { Jobs } from './tasks/jobs.js';
 import { Observers } from './tasks/observers.js';
 import { Promises } from './tasks/promises.js';
@@ -93,6 +96,7 @@ class Page {
     this.motions = new Motions(this);
     this.media = new Media(this);
     this.navigations = new Navigations(this);
+    this.guards = new Guards(this);
     this.handlers = new Handlers(this);
     this.onHandlers = new OnHandlers(this);
     this.calls = new Calls(this);
@@ -107,8 +111,10 @@ class Page {
     this.callbacks = new Callbacks(this);
     this.jobs = new Jobs(this);
     this.promises = new Promises(this);
+    this.earlierReactions = new EarlierReactions(this);
     this.observers = new Observers(this);
     this.requests = new Requests(this);
+    this.endedRequests = new EndedRequests(this);
     this.connections = new Connections(this);
     this.messages = new Messages(this);
     this.reactions = new Reactions(this);
@@ -147,8 +153,8 @@ class Page {
     this.recording.elementNumbers.delete(this.window); // a frame's window stays the same object for its next page
     if (this.recording.objects) this.recording.objects.addWindow(this);
     this.#beginDocument();
-    const parts = [this.chaos, this.handlers, this.onHandlers, this.capturing, this.calls, this.attributes, this.made, this.lookups, this.fields, this.causes, this.media, this.navigations, this.timers, this.callbacks,
-      this.jobs, this.promises, this.observers, this.requests, this.connections, this.messages, this.reactions, this.clock, this.unseen];
+    const parts = [this.chaos, this.guards, this.handlers, this.onHandlers, this.capturing, this.calls, this.attributes, this.made, this.lookups, this.fields, this.causes, this.media, this.navigations, this.timers, this.callbacks,
+      this.jobs, this.promises, this.observers, this.requests, this.endedRequests, this.connections, this.messages, this.reactions, this.clock, this.unseen];
     each(parts, (part) => part.start());
     this.#replaceToString();
     this.tree.start(maker);

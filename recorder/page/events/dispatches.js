@@ -93,8 +93,9 @@ class Dispatches {
    * @param {Event} event
    */
   #isOfJob(event) {
-    if (settings.isDriven && !this.recording.isRunning()) return false;
-    return !this.recording.steering.isTrusted(event) || (event.type === 'slotchange' && this.recording.isCheckpoint);
+    const { recording, page } = this;
+    if (settings.isDriven && !recording.isRunning()) return false;
+    return !recording.steering.isTrusted(event) || (recording.isCheckpoint && (event.type === 'slotchange' || page.navigations.endsInJob(event)));
   }
 
   /**
@@ -130,6 +131,7 @@ class Dispatches {
     dispatch.number = recording.next('dispatch');
     recording.begin(`inline ${dispatch.number} ${standIn} ${spellName(dispatch.event.type)}`, 'begin', undefined, [dispatch.suspended]);
     dispatch.beginning = recording.running;
+    recording.running.insideOf = dispatch.suspended;
   }
 
   /**
@@ -138,7 +140,7 @@ class Dispatches {
    */
   #beginConsequence(dispatch) {
     const { recording } = this;
-    if (!dispatch.event.isTrusted) return false;
+    if (!dispatch.event.isTrusted || this.page.navigations.endsLater(dispatch.event)) return false;
     const { type } = dispatch.event;
     const now = this.natives.now();
     const height = heightOfLast(recording.dispatches, (one) => isConsequence(one, type, recording.task, now));
@@ -163,7 +165,7 @@ class Dispatches {
     page.loading.orderLeaving(dispatch);
     const request = this.requests.get(target);
     if (request) {
-      recording.begin(`reply ${dispatch.number} ${request.number}`, 'begin', undefined, [request.sender]);
+      recording.begin(`reply ${dispatch.number} ${request.number}`, 'begin', undefined, [request.sender, request.end?.event]);
       page.connections.order(dispatch, request);
     } else if (!page.loading.begin(dispatch) && !page.messages.begin(dispatch) && !page.queued.begin(dispatch)) this.#beginAt(dispatch);
     dispatch.beginning = recording.running;
@@ -179,11 +181,11 @@ class Dispatches {
     const { recording, page } = this;
     const type = spellName(event.type);
     if (target === page.window) {
-      recording.begin(`wfire ${dispatch.number} ${page.number} ${type}`, 'begin');
+      recording.beginAt(dispatch, 'wfire', page.number, type);
       return;
     }
     const element = page.controls.standIn(dispatch) || page.elements.declaredNumber(target);
-    recording.begin(`fire ${dispatch.number} ${element} ${type}`, 'begin', undefined, dispatch.comesAfter);
+    recording.beginAt(dispatch, 'fire', element, type, dispatch.comesAfter);
   }
 
   /**

@@ -78,6 +78,18 @@ exports.cases = [
       'run what settled the promise', 'run await', 'r items', 'w who'],
     races: ['who'],
   },
+  {
+    page: 'reactions-in-order.html', // of the two timeouts, that with the greater delay is set first
+    due: ['reply', 'w items', 'on an earlier reaction at the promise', 'timer', 'run an earlier reaction at the promise', 'run await', 'w items',
+      'timer', 'run an earlier reaction at the promise', 'run await', 'w items'],
+    races: ['items'],
+  },
+  {
+    page: 'reactions-of-two-clicks.html',
+    words: ['--do', 'click:#go', '--do', 'wait:300', '--do', 'click:#go'],
+    due: ['run click', 'reply', 'w used', 'on an earlier reaction at the promise', 'run click', 'run an earlier reaction at the promise', 'w used'],
+    races: [],
+  },
 
   {
     page: 'module-of-two.html',
@@ -101,6 +113,29 @@ exports.cases = [
   },
 
   // ---- what always comes in one order
+  {
+    page: 'toggle-after-timer.html',
+    words: ['--do', 'click:#opens'],
+    due: ['run click', 'w step', 'close', 'new div#shown plain', 'back', 'timer', 'fire div#shown toggle', 'run toggle', 'r step'],
+    races: [],
+  },
+  {
+    page: 'pointer-lost.html',
+    words: ['--do', 'click:#slider'],
+    due: ['fire button#slider pointerup', 'w drag', 'close', 'inline button#slider mouseup', 'close', 'inline button#slider lostpointercapture', 'r drag', 'back',
+      'inline button#slider click', 'r drag', 'back', 'back'],
+    races: [],
+  },
+  {
+    page: 'events-of-two-clicks.html',
+    words: ['--do', 'click:#next', '--do', 'wait:300', '--do', 'click:#next', '--do', 'wait:300'],
+    due: ['fire window hashchange', 'w current', 'on the event before', 'run click', 'fire window hashchange', 'run the event before', 'run changed', 'w current'],
+    besides: [['fire details#details toggle', 'on the event before', 'fire details#details toggle', 'run the event before', 'run toggles'],
+      ['fire div#box transitionend', 'on the event before', 'fire div#box transitionend', 'run the event before', 'run fades'],
+      ['fire div#list scroll', 'on the event before', 'fire div#list scroll', 'run the event before', 'run scrolls'],
+      ['fire window unhandledrejection', 'on the event before', 'fire window unhandledrejection', 'run the event before', 'run rejects']],
+    races: [],
+  },
   { page: 'transition-by-ancestor.html', due: ['timer', 'w state', 'new div#panel plain', 'fire div#panel transitionend', 'r state', 'w seen'], races: [] },
   {
     page: 'database-order.html',
@@ -209,7 +244,7 @@ exports.cases = [
   },
   {
     page: 'promise-settled.html',
-    due: ['on reaction', 'timer', 'w second', 'timer', 'w first', 'inline promise reactions then', 'run one of several promises', 'run one of several promises',
+    due: ['on reaction', 'timer', 'w second', 'timer', 'w first', 'inline promise reactions then', 'run one of several promises',
       'run reaction', 'r first', 'r second'],
     races: [],
   },
@@ -336,6 +371,20 @@ exports.cases = [
     due: ['inline a#link click', 'run clicked', 'w asked', 'close', 'inline Navigation navigate', 'run goes', 'r asked', 'on handler', 'run handler', 'w shown',
       'new Navigation plain', 'back', 'fire Navigation navigatesuccess', 'run over', 'r shown'],
     races: ['click of a#link'],
+  },
+  {
+    page: 'navigate-ends.html',
+    due: ['timer', 'inline Navigation navigate', 'run begins', 'back', 'inline Navigation navigatesuccess', 'run ends', 'back', 'timer', 'inline Navigation navigate',
+      'inline Navigation navigatesuccess', 'run ends', 'timer', 'w asked', 'fire Navigation navigate', 'run begins', 'on the event before',
+      'fire Navigation navigatesuccess', 'run the event before', 'run ends'],
+    races: [],
+  },
+  {
+    page: 'navigate-ends-by-click.html',
+    words: ['--do', 'click:#link'],
+    due: ['run click', 'w busy', 'inline Navigation navigate', 'run begins', 'back', 'inline Navigation navigatesuccess', 'run ends', 'back', 'inline window popstate',
+      'run steps', 'back'],
+    races: [],
   },
   {
     page: 'navigate-waits.html',

@@ -97,6 +97,12 @@ exports.cases = [
     ],
   },
   {
+    page: 'writes-fallback.html',
+    due: ['exec script', 'inline script error', 'run error', 'back', 'parse script sync', 'exec script', 'w library', 'back', 'parse p#after plain', 'exec script', 'r library'],
+    races: [],
+    losses: [/not served: 1 \(missing-library.js\)/],
+  },
+  {
     page: 'shadow-declarative.html',
     words: ['--do', 'click:#light'],
     due: [
@@ -236,6 +242,18 @@ exports.cases = [
   {
     page: 'module-imports-broken.html',
     due: ['w before', 'exec script', 'inline window error', 'run broken', 'r before', 'w faults', 'back', 'inline script load', 'r faults', 'dcl'],
+    throws: true,
+  },
+  {
+    page: 'module-broken-other.html', // not the error of the next deferred module, since an async one is to run too
+    due: ['wfire error', 'run broken', 'r before', 'exec script', 'w before'],
+    races: ['before', 'error of window'],
+    throws: true,
+  },
+  {
+    page: 'module-broken-inserted.html', // nor if a script is to run that code has inserted
+    due: ['wfire error', 'run broken', 'r before', 'exec script', 'w before'],
+    races: ['before', 'error of window'],
     throws: true,
   },
   { page: 'module-broken-async.html', due: ['wfire error', 'run broken', 'r before'], races: ['before', 'error of window'], throws: true },
