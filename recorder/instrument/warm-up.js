@@ -19,14 +19,20 @@ const MINIFIED = '(function(a,b){var c=a.d||(a.d={}),e=/x[a-z]+/gi,z;function f(
 /** A piece of a page, by which the parser of pages is loaded too. */
 const PAGE = '<div class="a" id=b><p>Some text &amp; <a href="c.html" title=\'d\'>more</a><img src=e><table><tr><td>f</table><select><option>g</select></div><script src=h></script>';
 
+/** @type {import('./syntax/types').Options} */
+const OPTIONS = { kind: 'script', builtins: new Set(['window', 'document']), site: () => 0 };
+
 /** Marks code that no page has: a readable script, and a minified one. */
 function warmUp() {
   const readable = fs.readFileSync(require.resolve('/usr/share/nodejs/acorn'), 'utf8');
-  /** @type {import('./syntax/types').Options} */
-  const options = { kind: 'script', builtins: new Set(['window', 'document']), site: () => 0 };
-  for (let k = 0; k < TIMES_READABLE; k++) instrument(readable, options);
-  instrument(MINIFIED.repeat(TIMES_MINIFIED), options);
+  for (let k = 0; k < TIMES_READABLE; k++) instrument(readable, OPTIONS);
+  instrument(MINIFIED.repeat(TIMES_MINIFIED), OPTIONS);
   readTags(PAGE.repeat(TIMES_PAGE));
 }
 
-module.exports = { warmUp, MINIFIED };
+/** Marks a few lines. The marks of a page's files may be kept ones; those of the scripts in its text are made when it comes. */
+function warmUpForInline() {
+  instrument(MINIFIED, OPTIONS);
+}
+
+module.exports = { warmUp, warmUpForInline, MINIFIED };

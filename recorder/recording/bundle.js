@@ -1,7 +1,7 @@
 'use strict';
 // Puts modules together into one text, for a page or a world of its own. Each module is a function, so only its exports can be seen outside of it. Names
 // are the same as in the file, in stacks too, and the first line of each module has the name of its file. Comments and blanks at the start of a line are
-// left out, not the lines themselves: the browser reads the text for each document. It is a small bundler for ES modules.
+// left out, not the lines themselves, unless the caller shortens the modules. It is a small bundler for ES modules.
 //
 // The modules have only two forms, so no parser is needed: `import { a, b as c } from './file.js';` at the start of a line, and one `export { a, b };` at
 // the end. Other forms are refused, as are names that are not exported, and cycles.
@@ -27,9 +27,13 @@ const withoutComments = (text) => text.replace(COMMENT, (comment) => comment.rep
 
 /** The modules of a bundle, each after those that it imports. */
 class Bundle {
-  /** @param {string} folder of the module whose exports are wanted: names of files are relative to it */
-  constructor(folder) {
+  /**
+   * @param {string} folder of the module whose exports are wanted: names of files are relative to it
+   * @param {(code: string) => string} shorten
+   */
+  constructor(folder, shorten) {
     this.folder = folder;
+    this.shorten = shorten;
     /** @type {Map<string, Module|null>} by file; null while the imports of the module are read */
     this.modules = new Map();
     /** @type {string[]} */
@@ -54,7 +58,7 @@ class Bundle {
     const other = OTHER.exec(text);
     if (other) throw new Error(`${file}: ${other[0]}: imports have one form, exports are at the end`);
     const module = { constant: `module${this.texts.length}`, exported };
-    this.texts.push(`const ${module.constant} = (() => { // ${this.nameOf(file)}\n${text}})();`);
+    this.texts.push(`const ${module.constant} = (() => { // ${this.nameOf(file)}\n${this.shorten(text)}})();`);
     this.modules.set(file, module);
     return module;
   }
@@ -81,10 +85,11 @@ class Bundle {
 /**
  * @param {string} entry the file of the module whose exports are wanted
  * @param {string[]} parameters names that the modules know
+ * @param {(code: string) => string} [shorten] what is made of the code of each module
  * @returns {string} a function of the parameters that runs the modules and returns the exports
  */
-function bundled(entry, parameters) {
-  const bundle = new Bundle(path.dirname(path.resolve(entry)));
+function bundled(entry, parameters, shorten = (code) => code) {
+  const bundle = new Bundle(path.dirname(path.resolve(entry)), shorten);
   const { constant } = bundle.add(path.resolve(entry));
   return `(function (${parameters.join(', ')}) {\n'use strict';\n${bundle.texts.join('\n')}\nreturn ${constant};\n})`;
 }

@@ -8,6 +8,7 @@ const { HANDLER_NAMES } = require('../common/handler-names.js');
 const { codeOfAddress, scriptType } = require('../common/html.js');
 const { foreignness } = require('../common/library.js');
 const { FIRST_FIELD, FIRST_OBJECT } = require('../common/numbers.js');
+const { withoutBlanks } = require('./blanks.js');
 const { bundled } = require('./bundle.js');
 const { MARKS, textWithoutMarks } = require('../instrument/marks/delimiters.js');
 const { ANSWERS, WITHOUT_ANSWER } = require('../instrument/marks/helpers.js');
@@ -41,7 +42,10 @@ const escaped = (sign) => `\\u${sign.charCodeAt(0).toString(16).padStart(4, '0')
  * A value as code: JSON, a regular expression or a function. One sign that is not of Latin-1 would double what the whole script takes in the browser.
  * @param {unknown} value
  */
-const codeOf = (value) => (value instanceof RegExp || typeof value === 'function' ? String(value) : JSON.stringify(value).replace(/[\u0080-\uffff]/g, escaped));
+function codeOf(value) {
+  if (typeof value === 'function') return withoutBlanks(String(value));
+  return value instanceof RegExp ? String(value) : JSON.stringify(value).replace(/[\u0080-\uffff]/g, escaped);
+}
 
 /**
  * The interfaces of the browser that have `on..` properties. Runs in the page, if nobody has asked the browser before.
@@ -84,7 +88,7 @@ let modules = null;
  * @returns {string}
  */
 function pageScript(handlerOwners, options) {
-  modules = modules || bundled(MAIN, ['window', 'given']);
+  modules = modules || bundled(MAIN, ['window', 'given'], withoutBlanks);
   return `${modules}(window, ${settingsCode(handlerOwners, options)}).begin(window);\n//# sourceURL=${SCRIPT_NAME}`;
 }
 

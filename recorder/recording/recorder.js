@@ -11,7 +11,7 @@ const { printErrorOnce } = require('../common/output.js');
 const { STATUS } = require('../common/status.js');
 const { sleep } = require('../common/time.js');
 const { markAhead } = require('../instrument/ahead.js');
-const { warmUp } = require('../instrument/warm-up.js');
+const { warmUp, warmUpForInline } = require('../instrument/warm-up.js');
 const { Acts } = require('./acts.js');
 const { Rest } = require('./rest.js');
 const { signIn } = require('./signed-in.js');
@@ -131,7 +131,8 @@ class Recorder extends Session {
   prepareScripts() {
     const { address, folder } = this;
     const marked = folder?.has(address) ? markAhead(this.sources, folder, address) : 0; // a server would get each request twice
-    if (!marked) warmUp();
+    if (marked) warmUpForInline();
+    else warmUp();
   }
 
   async prepareTab() {

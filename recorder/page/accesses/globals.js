@@ -7,6 +7,9 @@ import { MISSING } from '../log/values.js';
 import { IS_COUNTED, READ, WRITE } from '../objects/holders.js';
 
 const FIRST_SITES = 4096;
+/** A part of the cells has 64 sites. */
+const BITS_OF_PART = 6;
+const LAST_OF_PART = (1 << BITS_OF_PART) - 1;
 
 /**
  * A longer list that starts with the same numbers, and has room for an index.
@@ -43,8 +46,8 @@ class Globals {
      */
     this.lexicals = new Map();
     /**
-     * By site: its variable among these, or null.
-     * @type {({now: unknown}|null|undefined)[]}
+     * By site: its variable among these, or null. In parts, as few sites write global variables.
+     * @type {(({now: unknown}|null|undefined)[]|undefined)[]}
      */
     this.cells = [];
     /**
@@ -166,18 +169,22 @@ class Globals {
    * @param {unknown} value
    */
   noteValueAt(site, name, value) {
-    if (site >= this.cells.length) this.#makeRoom(site);
-    let cell = this.cells[site];
-    if (cell === undefined) cell = this.cells[site] = this.#cellOf(name);
+    const part = this.cells[site >> BITS_OF_PART] || this.#addPart(site >> BITS_OF_PART);
+    let cell = part[site & LAST_OF_PART];
+    if (cell === undefined) cell = part[site & LAST_OF_PART] = this.#cellOf(name);
     if (cell !== null) cell.now = value;
   }
 
   /**
-   * Makes the list of cells long enough for a site.
-   * @param {number} site
+   * Adds a part of the cells.
+   * @param {number} index
    */
-  #makeRoom(site) {
-    for (let k = this.cells.length; k <= site; k++) this.cells[k] = undefined;
+  #addPart(index) {
+    for (let k = this.cells.length; k < index; k++) this.cells[k] = undefined;
+    /** @type {({now: unknown}|null|undefined)[]} */
+    const part = [];
+    for (let k = 0; k <= LAST_OF_PART; k++) part[k] = undefined;
+    return this.cells[index] = part;
   }
 
   /** @param {string} name */

@@ -46,9 +46,11 @@ class OnHandlers {
 
   start() {
     const { window } = this.page;
+    const accessors = this.#makerOfAccessors();
     const owners = mapped(keep(settings.handlerOwners, (name) => window[name]), (name) => window[name].prototype);
     each(joined([window], owners), (owner) => {
-      each(keep(Object.getOwnPropertyNames(owner), (name) => fits(/^on[a-z]/, name)), (name) => this.#replaceProperty(owner, name));
+      const names = keep(Object.getOwnPropertyNames(owner), (name) => fits(/^on[a-z]/, name));
+      each(names, (name) => replaceProperty(owner, name, ({ get, set }) => accessors(owner, name, get, set)));
     });
   }
 
@@ -74,26 +76,30 @@ class OnHandlers {
     return this.ofProperties.get(target)?.get(type);
   }
 
-  /**
-   * @param {object} owner
-   * @param {string} name
-   */
-  #replaceProperty(owner, name) {
+  /** A window has hundreds of `on..` properties: what their hooks share is in one closure, and each has little of its own. */
+  #makerOfAccessors() {
     const onHandlers = this;
     const { handlers, recording, page: { window } } = this;
-    const type = sliceOf(name, 2);
-    replaceProperty(owner, name, (native) => ({
+    /**
+     * @param {object} owner
+     * @param {string} name
+     * @param {Method} get the browser's
+     * @param {Method} set
+     * @returns {import('../types').Accessors}
+     */
+    return (owner, name, get, set) => ({
       get() {
         const target = this ?? window;
-        const value = apply(native.get, target, []);
+        const value = apply(get, target, []);
+        const type = sliceOf(name, 2);
         if (target !== owner || owner === window) recording.access('r', handlers.slot(onHandlers.#slotTarget(target, type), type));
         return (value && onHandlers.originals.get(value)) || value;
       },
       set(value) {
         const target = this ?? window;
-        apply(native.set, target, [recording.isOver ? value : onHandlers.#assign(target, type, value)]);
+        apply(set, target, [recording.isOver ? value : onHandlers.#assign(target, sliceOf(name, 2), value)]);
       },
-    }));
+    });
   }
 
   /**

@@ -50,16 +50,16 @@ function makerByName(objects) {
  */
 function makerByKey(objects) {
   const { sites } = objects;
-  const { objects: lastObjects, keys: lastKeys, items: lastItems } = sites;
+  const { objects: lastObjects, keys: lastKeys, marks } = sites;
   const access = accessing(objects);
   /** @type {(key: unknown, site: number) => boolean} */
-  const hasHad = (key, site) => (typeof key === 'number' && (lastItems[site] & bitOf(key)) !== 0) || lastKeys[site] === key;
+  const hasHad = (key, site) => (typeof key === 'number' && (marks[site] & bitOf(key)) !== 0) || lastKeys[site] === key;
   /** @type {(object: unknown, key: unknown, modes: Modes, site: number) => void} */
   const accessByKey = (object, key, modes, site) => {
     if (typeof key !== 'string' && typeof key !== 'number') return;
-    const items = site < lastObjects.length && lastObjects[site] === object ? lastItems[site] : 0;
+    const items = site < lastObjects.length && lastObjects[site] === object ? marks[site] : 0;
     if (!sites.isDue(object, site)) return;
-    lastItems[site] = items;
+    marks[site] = items;
     access(object, key, modes, site);
     sites.noteKey(object, key, site);
   };

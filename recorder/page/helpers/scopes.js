@@ -2,10 +2,11 @@
 
 import { UNKNOWN } from '../log/values.js';
 import { Scope } from '../objects/scopes.js';
+import { markOfStaged } from '../objects/sites.js';
 
 /** @param {import('../types').Objects} objects */
 function helpersOfScopes({ recording, sites, scopes, variables }) {
-  const { objects: lastObjects, staged: lastStaged } = sites;
+  const { objects: lastObjects, marks } = sites;
   const { staged } = variables;
   /**
    * `before` and `after` are the values of the variable.
@@ -16,7 +17,7 @@ function helpersOfScopes({ recording, sites, scopes, variables }) {
       if (!sites.isDue(scope, site)) return;
       scopes.write(scope, name, site, modes, before);
     }
-    const at = lastStaged[site];
+    const at = markOfStaged(marks[site]);
     if (at >= 0) staged[at] = after;
   };
   return {

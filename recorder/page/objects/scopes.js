@@ -3,6 +3,7 @@
 
 import { hideClass } from '../core/hiding.js';
 import { Holder, IS_COUNTED, READ, SCOPE } from './holders.js';
+import { markOfStaged } from './sites.js';
 
 /**
  * The holder of a scope, made when it is first needed; null if it is no scope, as that of a function which has not made it yet.
@@ -90,7 +91,7 @@ class Scopes {
     if (modes !== 'w') variables.readAs(holder, variable, site, before);
     variables.stage(holder, variable, site, before);
     if (isCount) variable.flags |= IS_COUNTED;
-    sites.staged[site] = variables.placeOfStaged(variable);
+    sites.marks[site] = markOfStaged(variables.placeOfStaged(variable));
   }
 
   /**

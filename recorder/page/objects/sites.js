@@ -1,7 +1,7 @@
 // Which object each place of instrumented code (its site) has had in the running piece. The helpers ask this first: so a place in a loop over one object
 // costs no more than the question.
 
-import { isArray, isView } from '../core/taken.js';
+import { Map, isArray, isView } from '../core/taken.js';
 import { isThing } from '../core/things.js';
 import { SINGLE_ITEMS } from './holders.js';
 
@@ -10,14 +10,23 @@ const MOST_OBJECTS_OF_SITE = 2000;
 /** The bits of the items of an array that a site has had: one each, and one for all others. */
 const ALL_OTHERS = 1 << SINGLE_ITEMS;
 const ALL_ITEMS = 2 * ALL_OTHERS - 1;
-const NOT_STAGED = -1;
 
 /** @param {number} item */
 const bitOf = (item) => 1 << (item < SINGLE_ITEMS ? item : SINGLE_ITEMS);
+/**
+ * The mark of a site for the place of its write, and the place for a mark: below zero if the other one is not.
+ * @param {number} place
+ */
+const markOfStaged = (place) => -1 - place;
+/**
+ * What a site has met that had too many objects in a piece.
+ * @param {number} piece
+ */
+const fullIn = (piece) => -1 - piece;
 
 /**
- * What each site had in the running piece: `objects`, the last one, or null; `keys`, its last key; `items`, the bits of the items;
- * `staged`, the place of its write among the staged ones. And how many objects it had in which action.
+ * What each site had in the running piece: `objects`, the last one, or null; `keys`, its last key; `marks`, the bits of the items, or `markOfStaged` of its
+ * write. And how many objects it had in which action. Each list has an entry for each site of the page's scripts, so there are few lists.
  */
 class Sites {
   /** @param {import('../types').Recording} recording */
@@ -28,18 +37,17 @@ class Sites {
     /** @type {unknown[]} */
     this.keys = [];
     /** @type {number[]} */
-    this.items = [];
-    /** @type {number[]} */
-    this.staged = [];
-    /** @type {number[]} */
-    this.counts = [];
-    /** @type {number[]} */
-    this.countedIn = [];
+    this.marks = [];
     /**
-     * The last piece of code in which a site had too many.
+     * MOST_OBJECTS_OF_SITE times the last action that counted objects, and their count in it; or `fullIn` of the last piece in which these were too many.
      * @type {number[]}
      */
-    this.fullIn = [];
+    this.met = [];
+    /**
+     * The last action in which a site had too many, by site: few sites have.
+     * @type {Map<number, number>}
+     */
+    this.full = new Map();
     /**
      * The sites that have an object.
      * @type {number[]}
@@ -49,11 +57,11 @@ class Sites {
 
   /** The running action might change. Nothing of the page is kept alive here. */
   forget() {
-    const { touched, objects, keys, staged } = this;
+    const { touched, objects, keys, marks } = this;
     for (let k = 0; k < touched.length; k++) {
       objects[touched[k]] = null;
       keys[touched[k]] = null;
-      staged[touched[k]] = NOT_STAGED;
+      marks[touched[k]] = 0;
     }
     touched.length = 0;
   }
@@ -66,11 +74,8 @@ class Sites {
     for (let k = this.objects.length; k <= site; k++) {
       this.objects[k] = null;
       this.keys[k] = null;
-      this.items[k] = 0;
-      this.staged[k] = NOT_STAGED;
-      this.counts[k] = 0;
-      this.countedIn[k] = 0;
-      this.fullIn[k] = -1;
+      this.marks[k] = 0;
+      this.met[k] = 0;
     }
   }
 
@@ -82,30 +87,32 @@ class Sites {
    */
   isDue(object, site) {
     const { recording } = this;
-    if (!isThing(object) || this.fullIn[site] === recording.pieces || !recording.mayAccess()) return false;
+    if (!isThing(object) || this.met[site] === fullIn(recording.pieces) || !recording.mayAccess()) return false;
     if (site >= this.objects.length) this.#makeRoom(site);
-    if (this.#isTooMany(site)) {
-      this.fullIn[site] = recording.pieces;
-      return false;
-    }
+    if (this.#isTooMany(site)) return false;
     if (this.objects[site] === null) this.touched[this.touched.length] = site;
     this.objects[site] = object;
     this.keys[site] = null;
-    this.items[site] = 0;
-    this.staged[site] = NOT_STAGED;
+    this.marks[site] = 0;
     return true;
   }
 
-  /** @param {number} site */
+  /**
+   * Counts an object of a site.
+   * @param {number} site
+   */
   #isTooMany(site) {
-    const { actions, log } = this.recording;
-    if (this.countedIn[site] !== actions) {
-      this.countedIn[site] = actions;
-      this.counts[site] = 0;
+    const { actions, pieces, log } = this.recording;
+    const { met, full } = this;
+    const first = actions * MOST_OBJECTS_OF_SITE;
+    if (met[site] >= 0 || full.get(site) !== actions) {
+      met[site] = met[site] > first ? met[site] + 1 : first + 1;
+      if (met[site] < first + MOST_OBJECTS_OF_SITE) return false;
+      log.miss(`further objects of places in the code that touch more than ${MOST_OBJECTS_OF_SITE} in one action; such places`);
+      full.set(site, actions);
     }
-    this.counts[site]++;
-    if (this.counts[site] === MOST_OBJECTS_OF_SITE) log.miss(`further objects of places in the code that touch more than ${MOST_OBJECTS_OF_SITE} in one action; such places`);
-    return this.counts[site] >= MOST_OBJECTS_OF_SITE;
+    met[site] = fullIn(pieces);
+    return true;
   }
 
   /**
@@ -115,10 +122,10 @@ class Sites {
    * @param {number} site
    */
   noteKey(object, key, site) {
-    if (typeof key === 'number' && isArray(object)) this.items[site] |= bitOf(key);
-    else if (typeof key === 'number' && isView(object)) this.items[site] = ALL_ITEMS;
+    if (typeof key === 'number' && isArray(object)) this.marks[site] |= bitOf(key);
+    else if (typeof key === 'number' && isView(object)) this.marks[site] = ALL_ITEMS;
     else this.keys[site] = key;
   }
 }
 
-export { bitOf, Sites };
+export { bitOf, markOfStaged, Sites };

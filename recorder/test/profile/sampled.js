@@ -2,7 +2,7 @@
 // Where the time of a CPU profile goes: the samples by groups of functions, as the DevTools protocol and Node's inspector give profiles.
 
 /**
- * @typedef {{functionName: string, url: string, lineNumber: number}} CallFrame lines count from 0
+ * @typedef {{functionName: string, url: string, lineNumber: number, columnNumber?: number}} CallFrame lines and columns count from 0
  * @typedef {{id: number, callFrame: CallFrame, children?: number[]}} ProfileNode
  * @typedef {{nodes: ProfileNode[], samples?: number[], timeDeltas?: number[]}} Profile time in microseconds
  * @typedef {(frame: CallFrame) => string|null} Grouping the group of a function; null: that of the function which calls it
@@ -55,7 +55,8 @@ function hottest(profile, isMeant, most) {
   /** @type {Map<string, number>} */
   const sums = new Map();
   for (const { id, callFrame } of profile.nodes.filter((node) => isMeant(node.callFrame))) {
-    const name = `${callFrame.functionName || '(anonymous)'}:${callFrame.lineNumber + 1}`;
+    const { functionName, lineNumber, columnNumber } = callFrame;
+    const name = `${functionName || '(anonymous)'}:${lineNumber + 1}${columnNumber === undefined ? '' : `:${columnNumber + 1}`}`; // a module of page/ is one line
     sums.set(name, (sums.get(name) || 0) + (times.get(id) || 0));
   }
   return [...sums].sort((a, b) => b[1] - a[1]).slice(0, most);
