@@ -8,7 +8,7 @@ const { isOfTree } = require('../races/spelled-locations.js');
 const { Accesses, isNothing } = require('./patterns/accesses.js');
 const { UserActs } = require('./patterns/user-acts.js');
 const { Remaining } = require('./patterns/remaining.js');
-const { detailOf, lookOf } = require('./patterns/table.js');
+const { detailOf, lookOf, whatComesAgain } = require('./patterns/table.js');
 const { isTypedOver } = require('./patterns/typed.js');
 
 /**
@@ -110,7 +110,7 @@ class Looks {
     const [type, handler = ''] = race.location.split(' ')[2].split('/');
     const isIdle = k === 1 && this.isIdle(race.actions[k], handler);
     const here = k === 0 ? 'here it came before the handler was set' : `here the handler was there${isIdle ? ', and changed nothing that is recorded' : ''}`;
-    return lookOf(look, `a handler that comes late: ${event} may find none; ${here}`, detailOf(look, 'slot', type), isIdle);
+    return lookOf(look, `a handler that comes late: ${event} may find none; ${here}`, detailOf(look, 'slot', type), isIdle, look === 'late' && !!whatComesAgain(type));
   }
 
   /**

@@ -113,8 +113,8 @@ function whyBox(race) {
   });
   const { common } = race;
   const told = common === null
-    ? 'Nothing that was recorded asked for both.'
-    : `Both come from action ${common}: ${wordsOf(common)}. From there on no rule leads from the one to the other.`;
+    ? 'Nothing in the recording requested both.'
+    : `Both come from action ${common}: ${wordsOf(common)}. After that, nothing orders the two.`;
   box.append(columns, make('p', {}, told));
   box.append(waysFrom(common === null ? 0 : common, race.actions));
   return box;
