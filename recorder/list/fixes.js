@@ -7,8 +7,9 @@ const { whatComesAgain } = require('./patterns/table.js');
 /** @typedef {import('./patterns/table.js').LookKey} LookKey */
 /**
  * The kind of what the race is at, whether the side that finds nothing comes from an act of the user, and whether both sides write. Of an event that looks for
- * handlers: the tag of its target ('' if it is unknown), and whether a library registers the handler for the page's own call.
- * @typedef {{kind: string, isOfUser: boolean, modes?: string, tag?: string, isByLibrary?: boolean}} Use
+ * handlers: the tag of its target ('' if it is unknown), and whether a library registers the handler for the page's own call. `library`: the name of the library
+ * in which both sides are, if no call of the page leads to one of them.
+ * @typedef {{kind: string, isOfUser: boolean, modes?: string, tag?: string, isByLibrary?: boolean, library?: string}} Use
  */
 
 const OF_ELEMENT = 'look it up after it was added: `defer` in place of `async`, or DOMContentLoaded';
@@ -23,6 +24,7 @@ const OR_DISABLE = 'or disable the element until then';
 const OR_HIDE = 'or hide the element until then';
 /** What follows if a replay found nothing. */
 const IF_UNSEEN = 'usually none: nothing visible differs. If something else depends on the order';
+const IF = 'if the order matters, ';
 
 /** Elements that a page can disable. */
 const CAN_BE_DISABLED = new Set(['', 'button', 'fieldset', 'input', 'optgroup', 'option', 'select', 'textarea']);
@@ -35,7 +37,7 @@ const FIXES = {
   undefined: `${OF_VARIABLE}; for an element: ${OF_ELEMENT}; in code that a user starts: ${OF_USER}`,
   missed: 'register it in a script without `async`, or check first whether the event has already come',
   replies: 'discard a reply to an older request: number the requests, or abort the older one',
-  other: 'if the order matters, let one side wait for the other, or check that it is still wanted',
+  other: `${IF}let one side wait for the other, or check that it is still wanted`,
   flag: 'usually none: the side that comes last sees the flag of the other',
   counter: 'usually none: the count is the same in both orders',
   ticks: 'usually none: browsers keep this order',
@@ -48,9 +50,10 @@ const FIXES = {
  * The change for a problem.
  * @param {LookKey} look @param {Use} use
  */
-function fixOf(look, { kind, isOfUser, modes = 'ww', tag = '', isByLibrary = false }) {
+function fixOf(look, { kind, isOfUser, modes = 'ww', tag = '', isByLibrary = false, library = '' }) {
   if (look === 'late') return `${isByLibrary ? IN_TIME_BY_LIBRARY : IN_TIME}, ${CAN_BE_DISABLED.has(tag) ? OR_DISABLE : OR_HIDE}`;
   if (look === 'field' && modes !== 'ww') return OF_READ;
+  if (look === 'other' && library) return `both sides are code of ${library}: let its second call wait for the first, or report it there`;
   if (look !== 'undefined') return FIXES[look];
   return isOfUser ? OF_USER : kind === 'element' ? OF_ELEMENT : OF_VARIABLE;
 }
@@ -65,6 +68,6 @@ const fixOfAgain = (type) => `usually none: the ${whatComesAgain(type)} comes ag
  * The change for a problem of which a replay found no visible difference.
  * @param {string} fix that of its pattern
  */
-const fixOfSame = (fix) => (fix.startsWith('usually none') ? fix : `${IF_UNSEEN}: ${fix}`);
+const fixOfSame = (fix) => (fix.startsWith('usually none') ? fix : `${IF_UNSEEN}: ${fix.replace(IF, '')}`);
 
 module.exports = { FIXES, OF_IDLE, fixOf, fixOfAgain, fixOfSame };

@@ -67,9 +67,15 @@ test('a late handler that a library registers: the call, and its libraries', () 
   }
 });
 
+test('both sides in a library: there is nothing to change in it', () => {
+  assert.strictEqual(fixOf('other', { kind: 'variable', isOfUser: false, library: 'tree.min.js' }), 'both sides are code of tree.min.js: let its second call wait for the first, or report it there');
+  assert.strictEqual(fixOf('replies', { kind: 'variable', isOfUser: false, library: 'tree.min.js' }), FIXES.replies);
+});
+
 test('no visible difference when replayed: usually none, and the change of the pattern', () => {
   assert.strictEqual(fixOfSame(FIXES.replies), `usually none: nothing visible differs. If something else depends on the order: ${FIXES.replies}`);
   assert.strictEqual(fixOfSame(FIXES.same), FIXES.same);
+  assert.match(fixOfSame(FIXES.other), /depends on the order: let one side wait/);
 });
 
 test('the change is "usually none" exactly in the sections that say so', async () => {

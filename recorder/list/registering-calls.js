@@ -15,14 +15,16 @@ const BY_CALL = 'registered by the same call';
  * The line of a library that makes an access for the page's own code at a place; null if no library does, or this is unknown.
  * @param {import('../races/words.js').Words} words
  * @param {number} line of the trace
+ * @param {string} location
  * @param {Place|null} at
  * @returns {Place|null}
  */
-function wayOf(words, line, at) {
+function wayOf(words, line, location, at) {
   const own = words.placeOfLine(line);
   if (!own || !at || words.isOfLibrary(at)) return null;
   if (words.isOfLibrary(own)) return own;
-  return (String(own) === String(at) && words.names.ways?.[line]) || null;
+  const [, handler = ''] = location.startsWith('slot ') ? location.split('/') : [];
+  return (String(own) === String(at) && (words.names.handlers[handler]?.way || words.names.ways?.[line])) || null;
 }
 
 /**
@@ -35,7 +37,7 @@ function callOf(words, { location, modes, lines, actions }) {
   const k = modes.indexOf('w');
   const at = [words.placeOfLine(lines[k]), words.names.callers?.[lines[k]]].find((place) => place && !words.isOfLibrary(place));
   if (!at || !location.startsWith('slot ') || !modes.includes('r')) return '';
-  return [actions[k], ...at, wayOf(words, lines[k], at) ? '' : location.split(' ')[1]].join(' ');
+  return [actions[k], ...at, wayOf(words, lines[k], location, at) ? '' : location.split(' ')[1]].join(' ');
 }
 
 /**

@@ -23,7 +23,6 @@ const NAMES = {
   files: [{ address: 'http://a/page.html', text: PAGE }, { address: 'http://a/app.js', text: "$('#tabs').tabs();\n" }, { address: 'http://a/jquery-ui.js', text: 'a\n', isLibrary: true }],
   elements: { 1: { tag: 'a', place: /** @type {Place} */ ([0, 1, 1]) }, 2: { tag: 'button', place: /** @type {Place} */ ([0, 2, 1]) }, 3: { tag: 'script', source: 'app.js' } },
   documents: {}, timeouts: {}, intervals: {}, requests: {}, objects: {},
-  handlers: Object.fromEntries(HANDLERS.map(([target, type], k) => [k + 1, { type, target: Number(target) }])),
   dispatches: Object.fromEntries(HANDLERS.map(([, type], k) => [k + 1, { type, act: 1000 * (k + 1) }])),
 };
 /** The numbers of the lines that register, after `webtrace`. */
@@ -36,8 +35,10 @@ const REGISTERS = HANDLERS.map((_, k) => 1 + 4 + 2 * (k + 1));
 async function problemsOf(placeOf, isByLibrary) {
   const { text, report } = await judgeLines(LINES);
   const places = Object.fromEntries(REGISTERS.map((line, k) => [line, placeOf(k)]));
-  const ways = isByLibrary ? Object.fromEntries(REGISTERS.map((line) => [line, /** @type {Place} */ ([2, 1, 1])])) : {};
-  return new Problems(text, { ...NAMES, places, ways }, report);
+  /** @type {{way?: Place}} */
+  const way = isByLibrary ? { way: [2, 1, 1] } : {};
+  const handlers = Object.fromEntries(HANDLERS.map(([target, type], k) => [k + 1, { type, target: Number(target), place: placeOf(k), ...way }]));
+  return new Problems(text, { ...NAMES, places, handlers }, report);
 }
 
 /** @param {Listing} listing */

@@ -65,10 +65,10 @@ class Sides {
 
   /**
    * The place of an access with the line of a library that makes it.
-   * @param {Place|null} at @param {number} line of the trace
+   * @param {Place|null} at @param {number} line of the trace @param {string} location
    */
-  placeAndWay(at, line) {
-    const way = wayOf(this.words, line, at);
+  placeAndWay(at, line, location) {
+    const way = wayOf(this.words, line, location, at);
     return `${this.place(at)}${way ? ` (via ${this.place(way)})` : ''}`;
   }
 
@@ -120,7 +120,7 @@ class Sides {
     const verb = isEvent ? event?.verb || 'event' : this.verb(kind, modes[k], lines[k]);
     const what = isEvent ? event?.target || this.callbacks.of(number) : this.thing(location);
     return {
-      verb, what, at, place: this.placeAndWay(at, lines[k]), actor: isEvent && event ? '' : this.callbacks.of(number), event: event?.words || '',
+      verb, what, at, place: this.placeAndWay(at, lines[k], location), actor: isEvent && event ? '' : this.callbacks.of(number), event: event?.words || '',
       act: this.actInWords(number), reply: this.replyOf(number), own: at && !this.words.isOfLibrary(at) ? at : this.callbacks.ownOrigin(number),
     };
   }
@@ -207,7 +207,7 @@ class Sides {
     const subjects = this.callbacks.subjects(race.actions[first], race.actions[1 - first]);
     const event = this.lookUpOf(race);
     const facts = { sides, subjects, thing, field: this.field(race.location), modes: race.modes, kind, isReplaced: this.problems.isReplaced(race), otherwise: event.otherwise };
-    return { sentence: sentenceOf(look, facts), place: at ? this.place(at, false) : this.page(), sides, call: callOf(this.words, race), fix: fixOf(look, { kind, isOfUser: !!sides[0].act, modes: race.modes, ...event }) };
+    return { sentence: sentenceOf(look, facts), place: at ? this.place(at, false) : this.page(), sides, call: callOf(this.words, race), fix: fixOf(look, { kind, isOfUser: !!sides[0].act, modes: race.modes, library: this.libraryOf(race, sides), ...event }) };
   }
 
   /**
@@ -217,10 +217,20 @@ class Sides {
   lookUpOf({ location, modes, lines, actions }) {
     const reader = modes.indexOf('r');
     if (!location.startsWith('slot ') || reader < 0) return {};
-    const isByLibrary = !!wayOf(this.words, lines[1 - reader], this.words.placeOfAccess(lines[1 - reader], actions[1 - reader]));
+    const isByLibrary = !!wayOf(this.words, lines[1 - reader], location, this.words.placeOfAccess(lines[1 - reader], actions[1 - reader]));
     const { words: [word, , element, type] } = this.words.actions.list[this.firstOf(actions[reader])];
     if (!EVENTS.has(word) || word === 'wfire') return { isByLibrary };
     return { isByLibrary, tag: this.elements.tagOf(element), otherwise: this.elements.withoutHandler(element, this.words.unescape(type)) };
+  }
+
+  /**
+   * The library whose code makes both accesses, if it makes one of them in no call of the page's own code that is known.
+   * @param {Race} race @param {Side[]} sides
+   */
+  libraryOf({ lines }, sides) {
+    const files = lines.map((line) => this.words.placeOfLine(line)).map((place) => (place && this.words.isOfLibrary(place) ? this.words.fileName(place[0]) : ''));
+    const isWithin = files.every(Boolean) && sides.some(({ at }) => at && this.words.isOfLibrary(at));
+    return isWithin ? [...new Set(files)].join(' and ') : '';
   }
 
   /**

@@ -114,7 +114,7 @@ test('groups in words, a filter, and what folds out', { timeout: 150000 }, async
   assert.match((await textsOf(tab, '.detail')).join('\n'), /^recorded: it was there.*\nfix: use it after it is set/);
   assert.match(await textOf(tab, '.why'), /requested by the script shop\.js/);
   await pick(tab, 7);
-  assert.match(await textOf(tab, '.picked'), /^Action 7, line 20: .*click/);
+  assert.match(await textOf(tab, '.picked'), /^Action 7, line 20 of the trace: .*click/);
   await pick(tab, 0);
   assert.match(await textOf(tab, '.picked'), /Action 0, .*Action 7, .*From action 0 these steps lead to action 7:.*\(action 7\) by rule 16/);
   await pick(tab, 4);

@@ -107,7 +107,7 @@ function whyBox(race) {
   const box = make('section', { class: 'why' }, make('h4', {}, 'Where the two come from'));
   const columns = make('div', { class: 'columns' });
   race.actions.forEach((action, k) => {
-    const column = make('div', {}, make('p', { class: k ? 'second' : 'first' }, `Action ${action}, line ${race.lines[k]}: ${wordsOf(action)}`));
+    const column = make('div', {}, make('p', { class: k ? 'second' : 'first' }, `Action ${action}, line ${race.lines[k]} of the trace: ${wordsOf(action)}`));
     column.append(originList(action));
     columns.append(column);
   });

@@ -18,7 +18,7 @@ import { sourceBox } from './source.js';
 function raceBox(race) {
   const box = make('article', { class: 'race' });
   const sources = make('div', { class: 'columns' });
-  sources.append(sourceBox(race.places[0], 'First:'), sourceBox(race.places[1], 'Second:'));
+  sources.append(sourceBox(race.places[0], 'Came first:'), sourceBox(race.places[1], 'Came second:'));
   box.append(sources, ...replayBox(race), new Picture(race).draw(), whyBox(race));
   box.append(make('p', { class: 'lines' }, `In the trace: lines ${race.lines.join(' and ')}, ${race.spelled}`));
   return box;
@@ -69,10 +69,17 @@ function lineBox(line) {
     make('span', { class: 'size' }, `${counted(groups.length, 'group')}, ${counted(races, 'race')}${problems.length > 1 ? ` in ${problems.length} problems` : ''}`));
   return foldable('problem', summary, () => {
     const box = make('div', { class: 'inside' }, ...toldBoxes(problem));
-    box.append(pieces(groups, (group) => groupBox(group, group.problem === problem ? undefined : group.problem)));
+    box.append(pieces(groups, (group) => groupBox(group, hasOwnWords(group, problem) ? group.problem : undefined)));
     return box;
   });
 }
+
+/**
+ * Whether a group has the words of its problem: that of its first race, unless the line has them.
+ * @param {Group} group
+ * @param {ShownProblem} shown of the line
+ */
+const hasOwnWords = ({ problem, first }, shown) => problem !== shown && problem.first === first.number;
 
 /**
  * The first line of a problem's entry in the list.
