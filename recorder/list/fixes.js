@@ -7,9 +7,9 @@ const { whatComesAgain } = require('./patterns/table.js');
 /** @typedef {import('./patterns/table.js').LookKey} LookKey */
 /**
  * The kind of what the race is at, whether the side that finds nothing comes from an act of the user, and whether both sides write. Of an event that looks for
- * handlers: the tag of its target ('' if it is unknown), and whether a library registers the handler for the page's own call. `library`: the name of the library
- * in which both sides are, if no call of the page leads to one of them.
- * @typedef {{kind: string, isOfUser: boolean, modes?: string, tag?: string, isByLibrary?: boolean, library?: string}} Use
+ * handlers: the tag of its target ('' if it is unknown), and whether a library registers the handler for the page's own call. `isInLibraries`: both sides are
+ * in libraries, and no call of the page's own code is known that leads to one of them.
+ * @typedef {{kind: string, isOfUser: boolean, modes?: string, tag?: string, isByLibrary?: boolean, isInLibraries?: boolean}} Use
  */
 
 const OF_ELEMENT = 'look it up after it was added: `defer` in place of `async`, or DOMContentLoaded';
@@ -22,6 +22,7 @@ const IN_TIME = 'register it in a script right after the element';
 const IN_TIME_BY_LIBRARY = 'make this call right after the element, its libraries before it';
 const OR_DISABLE = 'or disable the element until then';
 const OR_HIDE = 'or hide the element until then';
+const OF_LIBRARIES = 'both sides are library code: use the library again only when it is done, or report it there';
 /** What follows if a replay found nothing. */
 const IF_UNSEEN = 'usually none: nothing visible differs. If something else depends on the order';
 const IF = 'if the order matters, ';
@@ -50,10 +51,10 @@ const FIXES = {
  * The change for a problem.
  * @param {LookKey} look @param {Use} use
  */
-function fixOf(look, { kind, isOfUser, modes = 'ww', tag = '', isByLibrary = false, library = '' }) {
+function fixOf(look, { kind, isOfUser, modes = 'ww', tag = '', isByLibrary = false, isInLibraries = false }) {
   if (look === 'late') return `${isByLibrary ? IN_TIME_BY_LIBRARY : IN_TIME}, ${CAN_BE_DISABLED.has(tag) ? OR_DISABLE : OR_HIDE}`;
   if (look === 'field' && modes !== 'ww') return OF_READ;
-  if (look === 'other' && library) return `both sides are code of ${library}: let its second call wait for the first, or report it there`;
+  if (look === 'other' && isInLibraries) return OF_LIBRARIES;
   if (look !== 'undefined') return FIXES[look];
   return isOfUser ? OF_USER : kind === 'element' ? OF_ELEMENT : OF_VARIABLE;
 }

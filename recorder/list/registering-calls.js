@@ -22,7 +22,7 @@ const BY_CALL = 'registered by the same call';
 function wayOf(words, line, location, at) {
   const own = words.placeOfLine(line);
   if (!own || !at || words.isOfLibrary(at)) return null;
-  if (words.isOfLibrary(own)) return own;
+  if (words.isOfLibrary(own)) return String(words.names.callers?.[line]) === String(at) ? own : null;
   const [, handler = ''] = location.startsWith('slot ') ? location.split('/') : [];
   return (String(own) === String(at) && (words.names.handlers[handler]?.way || words.names.ways?.[line])) || null;
 }

@@ -207,7 +207,7 @@ class Sides {
     const subjects = this.callbacks.subjects(race.actions[first], race.actions[1 - first]);
     const event = this.lookUpOf(race);
     const facts = { sides, subjects, thing, field: this.field(race.location), modes: race.modes, kind, isReplaced: this.problems.isReplaced(race), otherwise: event.otherwise };
-    return { sentence: sentenceOf(look, facts), place: at ? this.place(at, false) : this.page(), sides, call: callOf(this.words, race), fix: fixOf(look, { kind, isOfUser: !!sides[0].act, modes: race.modes, library: this.libraryOf(race, sides), ...event }) };
+    return { sentence: sentenceOf(look, facts), place: at ? this.place(at, false) : this.page(), sides, call: callOf(this.words, race), fix: fixOf(look, { kind, isOfUser: !!sides[0].act, modes: race.modes, isInLibraries: this.isInLibraries(race), ...event }) };
   }
 
   /**
@@ -224,13 +224,12 @@ class Sides {
   }
 
   /**
-   * The library whose code makes both accesses, if it makes one of them in no call of the page's own code that is known.
-   * @param {Race} race @param {Side[]} sides
+   * Whether libraries make both accesses, and one of them in no call of the page's own code that is known.
+   * @param {Race} race
    */
-  libraryOf({ lines }, sides) {
-    const files = lines.map((line) => this.words.placeOfLine(line)).map((place) => (place && this.words.isOfLibrary(place) ? this.words.fileName(place[0]) : ''));
-    const isWithin = files.every(Boolean) && sides.some(({ at }) => at && this.words.isOfLibrary(at));
-    return isWithin ? [...new Set(files)].join(' and ') : '';
+  isInLibraries({ lines }) {
+    const places = lines.map((line) => this.words.placeOfLine(line));
+    return places.every((place) => place && this.words.isOfLibrary(place)) && lines.some((line) => !this.problems.names.callers?.[line]);
   }
 
   /**
