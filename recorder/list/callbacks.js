@@ -20,6 +20,8 @@ const INTERVALS = {
 
 /** Where a callback was requested, and, if that is in a library, the page's own place. */
 const ASKED = /, [a-z]+ at (\S+)(?: \((?:from (\S+)|via \S+)\))?$/;
+/** Texts that take no article before them. */
+const OWN_ARTICLE = /^(?:DOMContentLoaded|code whose|the |an? )/;
 /** Events that report on the file of their element. */
 const AT_FILE = new Set(['load', 'error']);
 
@@ -67,10 +69,29 @@ class Callbacks {
       case 'reply': return this.reply(b, number);
       case 'message': return this.asked('message', 'posted', names.messages?.[a], number);
       case 'run': return this.handler(action);
+      case 'fire': case 'inline': return this.event(b, action.words[3], number);
       case 'close': return `the browser, after ${action.dispatch ? this.of(action.dispatch.number) : 'an event'}`;
       case 'back': return this.of(action.first);
       default: return this.words.action(number).replace(/^the /, '');
     }
+  }
+
+  /**
+   * An event at an element; a message that is delivered as one.
+   * @param {string} element @param {string} type @param {number} number of the action
+   */
+  event(element, type, number) {
+    const isMessage = type === 'then' || !!this.names.elements[element]?.message;
+    return isMessage ? this.words.action(number).replace(/^the /, '') : `${this.words.unescape(type)} at ${this.elements.of(element)}`;
+  }
+
+  /**
+   * What runs in an action, as a reader of the view finds it: with its article, and with where it was requested.
+   * @param {number} number
+   */
+  withArticle(number) {
+    const text = this.of(number);
+    return OWN_ARTICLE.test(text) ? text : `the ${text}`;
   }
 
   /**
@@ -203,7 +224,7 @@ class Callbacks {
   subject(number, hasPlace = false) {
     const { words: [word, a] } = this.words.actions.list[this.words.actions.list[number].first];
     const text = word === 'exec' && !this.elements.fileOf(a) ? this.words.script(a) : this.of(number).replace(ASKED, (whole, at, own) => (hasPlace ? ` at ${own || at}` : ''));
-    return /^(?:DOMContentLoaded|code whose|the |an? )/.test(text) ? text : `the ${text}`;
+    return OWN_ARTICLE.test(text) ? text : `the ${text}`;
   }
 
   /**

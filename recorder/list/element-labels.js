@@ -1,6 +1,6 @@
 'use strict';
-// What distinguishes an element without an id from others of its kind, for a reader of the list: the text after its tag in the page's source, or its classes.
-// It names an element that has none.
+// What the tag of an element in the page's source says to a reader of the list: what distinguishes an element without an id from others of its kind (its text
+// or its classes), and its attributes.
 
 const { shown } = require('../common/shown.js');
 
@@ -8,7 +8,9 @@ const { shown } = require('../common/shown.js');
 const LONGEST = 30;
 /** Tags that are longer, or go on over several lines, have no label. */
 const TAG = /^<([\w-]+)((?:\s+[^\s=>"']+(?:\s*=\s*(?:"[^"]*"|'[^']*'|[^\s>"']+))?)*)\s*\/?>([^<]*)/;
-const CLASS = /\sclass\s*=\s*(?:"([^"]*)"|'([^']*)'|([^\s>"']+))/i;
+const VALUE = '\\s*=\\s*(?:"([^"]*)"|\'([^\']*)\'|([^\\s>"\']+))';
+/** @type {{[name: string]: RegExp}} */
+const ATTRIBUTES = { class: new RegExp(`\\sclass${VALUE}`, 'i'), href: new RegExp(`\\shref${VALUE}`, 'i') };
 /**
  * Character references of HTML (`&amp;`) that the text of an element can have.
  * @type {{[name: string]: string}}
@@ -25,9 +27,25 @@ function labelOf(source, tag) {
   if (name.toLowerCase() !== tag.toLowerCase()) return '';
   const words = text.replace(/&(\w+|#39);/g, (whole, one) => CHARACTERS[one] ?? whole).trim().replace(/\s+/g, ' ');
   if (/\w/.test(words)) return ` "${shown(words.length > LONGEST ? `${words.slice(0, LONGEST).trimEnd()}..` : words)}"`;
-  const [, ...classes] = CLASS.exec(attributes) || [];
-  const [own = ''] = classes.filter(Boolean);
+  const own = valueIn(attributes, 'class');
   return own ? shown(own.trim().split(/\s+/).slice(0, 2).map((one) => `.${one}`).join('')) : '';
 }
 
-module.exports = { labelOf };
+/**
+ * The value of an attribute in a tag; '' if the tag has none.
+ * @param {string} source of the page, from the tag on
+ * @param {string} tag
+ * @param {'class'|'href'} name
+ */
+function attributeOf(source, tag, name) {
+  const [, found = '', attributes = ''] = TAG.exec(source) || [];
+  return found.toLowerCase() === tag.toLowerCase() ? valueIn(attributes, name).trim() : '';
+}
+
+/** @param {string} attributes @param {string} name */
+function valueIn(attributes, name) {
+  const [, ...values] = ATTRIBUTES[name].exec(attributes) || [];
+  return values.find(Boolean) || '';
+}
+
+module.exports = { attributeOf, labelOf };

@@ -3,10 +3,12 @@
 // from other texts (races/thing-words.js), which never change.
 
 const { FIRST_FIELD, FIRST_MODULE } = require('../common/numbers.js');
-const { labelOf } = require('./element-labels.js');
+const { attributeOf, labelOf } = require('./element-labels.js');
 
 /** @typedef {import('./types').Place} Place */
 
+/** An address that leads somewhere: also to a place in the page, and not to its top. */
+const LEADS = /^(?!#?$|#top$|javascript:)./i;
 /** Elements that a page has once. */
 const ONCE = new Set(['html', 'head', 'body', 'HTMLDocument', 'Window']);
 
@@ -86,10 +88,33 @@ class ElementWords {
    */
   labelOf(number) {
     const { tag = '', id, field } = this.names.elements[number] || {};
-    const place = tag && !id && !field ? this.words.placeOfElement(number) : null;
+    return tag && !id && !field ? labelOf(this.sourceOf(number), tag) : '';
+  }
+
+  /**
+   * The rest of the line in the page's source from the tag of an element on; '' if the place of the tag is unknown.
+   * @param {string|number} number
+   */
+  sourceOf(number) {
+    const place = this.words.placeOfElement(number);
     if (!place) return '';
     const [file, line, column] = place;
-    return labelOf((this.words.sources.linesOf(file)[line] || '').slice(column - 1), tag);
+    return (this.words.sources.linesOf(file)[line] || '').slice(column - 1);
+  }
+
+  /**
+   * What the browser does for an event of a user that no handler takes, as the end of a sentence; '' if nothing, or this is unknown.
+   * @param {string|number} number of the target
+   * @param {string} type of the event
+   * @returns {string}
+   */
+  withoutHandler(number, type) {
+    const { standsFor } = this.names.elements[number] || {};
+    if (standsFor) return this.withoutHandler(standsFor, type);
+    const tag = this.tagOf(number);
+    if (type === 'submit' && tag === 'form') return 'sends the form';
+    const isLink = type === 'click' && (tag === 'a' || tag === 'area');
+    return isLink && LEADS.test(attributeOf(this.sourceOf(number), tag, 'href')) ? 'follows the link' : '';
   }
 
   /**

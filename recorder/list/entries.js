@@ -3,10 +3,11 @@
 // the printed report.
 
 const { ASKED } = require('./callbacks.js');
-const { OF_IDLE } = require('./fixes.js');
+const { OF_AGAIN, OF_IDLE, fixOfSame } = require('./fixes.js');
+const { alsoByCall, callOf } = require('./registering-calls.js');
 const { Sides, summaryOf } = require('./sides.js');
 const { pathInFolder } = require('./places.js');
-const { APART, IDLE } = require('./patterns/table.js');
+const { APART, HARMLESS, IDLE, SAME } = require('./patterns/table.js');
 
 /**
  * @typedef {import('./listing.js').Listing} Listing
@@ -97,7 +98,20 @@ class Entries {
    * @param {Listed} line
    */
   fixOf(line) {
-    return this.listing.partOf(line) === IDLE ? OF_IDLE : this.toldOf(line).fix;
+    const part = this.listing.partOf(line);
+    if (part === IDLE) return OF_IDLE;
+    const { fix, sides } = this.toldOf(line);
+    if (part === HARMLESS && line.look.comesAgain) return OF_AGAIN;
+    return part === SAME ? fixOfSame(fix) : fix;
+  }
+
+  /**
+   * The call that registers a late handler; '' if it is unknown.
+   * @param {Listed} line
+   */
+  callOf({ run, first, worst }) {
+    const { words, report } = this.listing.runs[run];
+    return callOf(words, report.races[worst ?? first]);
   }
 
   /** @param {Listed} line @param {Listed[]} others @returns {Entry} */
@@ -105,9 +119,11 @@ class Entries {
     const { sentence, place, sides } = this.toldOf(line);
     const { look, name } = line;
     const alsos = line.worst === undefined ? this.alsoOf(line) : ['', ''];
+    const ofCall = look.look === 'late' ? others.filter((one) => one.look.look === 'late').map((one) => this.toldOf(one).sides[1]) : [];
+    const byCall = ofCall.length ? alsoByCall(sides[1], ofCall) : '';
     return {
       place, sentence, look: look.name, part: this.listing.partOf(line), name, more: this.more(line, others), details: this.details(line),
-      sides: sides.map((side, k) => ({ ...side, also: alsos[k] })),
+      sides: sides.map((side, k) => ({ ...side, also: [alsos[k], k === 1 ? byCall : ''].filter(Boolean).join(' ') })),
     };
   }
 

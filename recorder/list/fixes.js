@@ -5,8 +5,9 @@
 /** @typedef {import('./patterns/table.js').LookKey} LookKey */
 /**
  * The kind of what the race is at, whether the side that finds nothing comes from an act of the user, and whether both sides write. Of an event that looks for
- * handlers: its type, and the tag of its target ('' if it is unknown).
- * @typedef {{kind: string, isOfUser: boolean, modes?: string, type?: string, tag?: string}} Use
+ * handlers: the tag of its target ('' if it is unknown), and whether a library registers the handler for the page's own call. `isInLibraries`: both sides are
+ * in libraries, and no call of the page's own code is known that leads to one of them.
+ * @typedef {{kind: string, isOfUser: boolean, modes?: string, tag?: string, isByLibrary?: boolean, isInLibraries?: boolean}} Use
  */
 
 const OF_ELEMENT = 'look it up after it was added: `defer` in place of `async`, or DOMContentLoaded';
@@ -14,21 +15,30 @@ const OF_USER = 'disable the control until it is set, or check for it first';
 const OF_VARIABLE = 'use it after it is set: wait for the load event of its script, or for a promise';
 const OF_READ = 'when code writes the field, clear the timeout and drop the reply that read it';
 const OF_IDLE = 'usually none: the handler changed nothing; to lose no event, register it after the element';
-const OF_SHOWN = 'register it in a script right after the element, or hide the element until then';
+/** A late handler whose event comes again by itself. */
+const OF_AGAIN = 'usually none: the pointer comes again; to lose no event, register it after the element';
+/** A late handler: where it would be in time, and what else an author can do. A call of a library needs its files there too. */
+const IN_TIME = 'register it in a script right after the element';
+const IN_TIME_BY_LIBRARY = 'make this call right after the element, its libraries before it';
+const OR_DISABLE = 'or disable the element until then';
+const OR_HIDE = 'or hide the element until then';
+const OF_LIBRARIES = 'both sides are library code: use the library again only when it is done, or report it there';
+/** What follows if a replay found nothing. */
+const IF_UNSEEN = 'usually none: nothing visible differs. If something else depends on the order';
+const IF = 'if the order matters, ';
 
-/** Events that come again by themselves, and elements that a page can disable. */
-const COMES_AGAIN = /^(?:(mouse|pointer)(?:over|out|enter|leave|move|rawupdate)|focus(?:in|out)?|blur)$/;
+/** Elements that a page can disable. */
 const CAN_BE_DISABLED = new Set(['', 'button', 'fieldset', 'input', 'optgroup', 'option', 'select', 'textarea']);
 
 /** @type {Record<LookKey, string>} */
 const FIXES = {
-  late: 'register it in a script right after the element, or disable the element until then',
+  late: `${IN_TIME}, ${OR_DISABLE}`,
   field: 'write only while the field is empty, or before the user can reach it',
   act: 'keep what the act wrote (check for it first), or disable the control until this has run',
   undefined: `${OF_VARIABLE}; for an element: ${OF_ELEMENT}; in code that a user starts: ${OF_USER}`,
   missed: 'register it in a script without `async`, or check first whether the event has already come',
   replies: 'discard a reply to an older request: number the requests, or abort the older one',
-  other: 'if the order matters, let one side wait for the other, or check that it is still wanted',
+  other: `${IF}let one side wait for the other, or check that it is still wanted`,
   flag: 'usually none: the side that comes last sees the flag of the other',
   counter: 'usually none: the count is the same in both orders',
   ticks: 'usually none: browsers keep this order',
@@ -41,18 +51,18 @@ const FIXES = {
  * The change for a problem.
  * @param {LookKey} look @param {Use} use
  */
-function fixOf(look, { kind, isOfUser, modes = 'ww', type = '', tag = '' }) {
-  if (look === 'late') return fixOfLate(type, tag);
+function fixOf(look, { kind, isOfUser, modes = 'ww', tag = '', isByLibrary = false, isInLibraries = false }) {
+  if (look === 'late') return `${isByLibrary ? IN_TIME_BY_LIBRARY : IN_TIME}, ${CAN_BE_DISABLED.has(tag) ? OR_DISABLE : OR_HIDE}`;
   if (look === 'field' && modes !== 'ww') return OF_READ;
+  if (look === 'other' && isInLibraries) return OF_LIBRARIES;
   if (look !== 'undefined') return FIXES[look];
   return isOfUser ? OF_USER : kind === 'element' ? OF_ELEMENT : OF_VARIABLE;
 }
 
-/** @param {string} type @param {string} tag */
-function fixOfLate(type, tag) {
-  const again = COMES_AGAIN.exec(type);
-  if (again) return `usually none: the ${again[1] ? 'pointer' : 'focus'} comes again; otherwise as for a click`;
-  return CAN_BE_DISABLED.has(tag) ? FIXES.late : OF_SHOWN;
-}
+/**
+ * The change for a problem of which a replay found no visible difference.
+ * @param {string} fix that of its pattern
+ */
+const fixOfSame = (fix) => (fix.startsWith('usually none') ? fix : `${IF_UNSEEN}: ${fix.replace(IF, '')}`);
 
-module.exports = { FIXES, OF_IDLE, fixOf };
+module.exports = { FIXES, OF_AGAIN, OF_IDLE, fixOf, fixOfSame };

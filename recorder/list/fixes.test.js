@@ -3,10 +3,11 @@
 
 const assert = require('node:assert');
 const { test } = require('node:test');
-const { FIXES, OF_IDLE, fixOf } = require('./fixes.js');
+const { FIXES, OF_AGAIN, OF_IDLE, fixOf, fixOfSame } = require('./fixes.js');
 const { Listing } = require('./listing.js');
-const { LOOKS } = require('./patterns/table.js');
+const { APART, HARMLESS, LOOKS, SAME, isAgain, lookOf } = require('./patterns/table.js');
 const { Problems } = require('./problems.js');
+const { partOf } = require('./rank.js');
 const { judgeLines } = require('../test/list-support.js');
 
 /** @typedef {keyof typeof LOOKS} Key */
@@ -53,10 +54,48 @@ test('a late handler: of what can be disabled, of what cannot, of an event that 
   const writes = ['w var 0 x'];
   assert.deepStrictEqual(await fixesOfLate('button', 'click', writes), [FIXES.late]);
   assert.deepStrictEqual(await fixesOfLate('a', 'click', writes), ['register it in a script right after the element, or hide the element until then']);
-  assert.deepStrictEqual(await fixesOfLate('a', 'mouseout', writes), ['usually none: the pointer comes again; otherwise as for a click']);
-  assert.deepStrictEqual(await fixesOfLate('input', 'blur', writes), ['usually none: the focus comes again; otherwise as for a click']);
+  assert.deepStrictEqual(await fixesOfLate('a', 'mouseout', writes), ['usually none: the pointer comes again; to lose no event, register it after the element']);
+  assert.deepStrictEqual(await fixesOfLate('input', 'blur', writes), [FIXES.late]);
   assert.deepStrictEqual(await fixesOfLate('input', 'mousedown', writes), [FIXES.late]);
   assert.deepStrictEqual(await fixesOfLate('body', 'click', writes), [FIXES.late], 'a page does not hide itself');
+});
+
+test('a late handler that a library registers: the call, and its libraries', () => {
+  for (const tag of ['a', 'button']) {
+    const fix = fixOf('late', { kind: 'handler', isOfUser: false, tag, isByLibrary: true });
+    assert.strictEqual(fix, `make this call right after the element, its libraries before it, or ${tag === 'a' ? 'hide' : 'disable'} the element until then`);
+  }
+});
+
+test('both sides in a library: there is nothing to change in it', () => {
+  const fix = fixOf('other', { kind: 'variable', isOfUser: false, isInLibraries: true });
+  assert.match(fix, /^both sides are library code: /);
+  assert.ok(fix.length <= WIDTH, String(fix.length));
+  assert.strictEqual(fixOf('replies', { kind: 'variable', isOfUser: false, isInLibraries: true }), FIXES.replies);
+});
+
+test('no visible difference when replayed: usually none, and the change of the pattern', () => {
+  assert.strictEqual(fixOfSame(FIXES.replies), `usually none: nothing visible differs. If something else depends on the order: ${FIXES.replies}`);
+  assert.strictEqual(fixOfSame(FIXES.same), FIXES.same);
+  assert.match(fixOfSame(FIXES.other), /depends on the order: let one side wait/);
+});
+
+test('the change is "usually none" exactly in the sections that say so', async () => {
+  const none = /^usually none: /;
+  for (const key of KEYS) {
+    const look = lookOf(key);
+    const fix = fixOf(key, { kind: 'variable', isOfUser: false });
+    assert.strictEqual(none.test(fix), [HARMLESS, APART].includes(partOf(look)), key);
+    const part = partOf(look, { race: 1, verdict: 'turned', words: '', effect: '' });
+    assert.ok([HARMLESS, APART, SAME].includes(part), `${key}: ${part}`);
+    assert.match(fixOfSame(fix), none, key);
+  }
+  for (const [type, part] of [['mouseover', HARMLESS], ['focus', LOOKS.late.part], ['click', LOOKS.late.part], ['keydown', LOOKS.late.part]]) {
+    const look = lookOf('late', type, '', false, isAgain(type));
+    assert.strictEqual(partOf(look), part);
+    assert.strictEqual(partOf(look, { race: 1, verdict: 'turned', words: '', effect: 'a lost act', differences: [{ kind: 'text' }] }), LOOKS.late.part, 'a replay that shows harm moves it');
+  }
+  assert.match(OF_AGAIN, none);
 });
 
 test('a late handler that changed nothing, of a mouse that moves and of a click', async () => {

@@ -172,14 +172,15 @@ class Listing {
   }
 
   /**
-   * The lines of the list: what is new at one location, and in one section of the list, is one line. In a build each problem is a line, with its name.
+   * The lines of the list: what is new at one location, and in one section of the list, is one line, and late handlers that one call registers. In a build each
+   * problem is a line, with its name.
    * @returns {Line[]}
    */
   told() {
     /** @type {Map<string, Line>} */
     const lines = new Map();
     for (const line of this.fresh()) {
-      const key = this.known ? line.name : `${this.partOf(line)} ${line.run} ${this.locationOf(line)}`;
+      const key = this.known ? line.name : this.keyOf(line);
       const known = lines.get(key);
       if (known) known.others.push(line);
       else lines.set(key, { line, others: [] });
@@ -188,11 +189,14 @@ class Listing {
   }
 
   /**
-   * All properties of the style of an element are one location.
-   * @param {Listed} problem
+   * Equal for problems that are one line. All properties of the style of an element are one location.
+   * @param {Listed} line
    */
-  locationOf({ run, first }) {
-    return this.runs[run].report.races[first].location.replace(/ style(?:\.\S+)?$/, ' style');
+  keyOf(line) {
+    const { run, first, look } = line;
+    const call = look.look === 'late' ? this.entries.callOf(line) : '';
+    const location = this.runs[run].report.races[first].location.replace(/ style(?:\.\S+)?$/, ' style');
+    return call ? `${run} call ${call}` : `${this.partOf(line)} ${run} ${location}`;
   }
 
   /** The lines of problems that are known. */

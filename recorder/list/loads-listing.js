@@ -31,6 +31,11 @@ class LoadEntries extends Entries {
   }
 
   /** @param {Listed} line */
+  callOf(line) {
+    return this.saidOf(line).told.call;
+  }
+
+  /** @param {Listed} line */
   alsoOf(line) {
     return this.saidOf(line).alsos;
   }

@@ -9,7 +9,7 @@ const { Accesses, isNothing } = require('./patterns/accesses.js');
 const { IdleHandlers } = require('./patterns/idle.js');
 const { UserActs } = require('./patterns/user-acts.js');
 const { Remaining } = require('./patterns/remaining.js');
-const { detailOf, lookOf } = require('./patterns/table.js');
+const { detailOf, isAgain, lookOf } = require('./patterns/table.js');
 const { isTypedOver } = require('./patterns/typed.js');
 
 /**
@@ -107,7 +107,7 @@ class Looks {
     const isUnchanged = k === 1 && this.idle.isIdle(number, handler);
     const here = k === 0 ? 'here it came before the handler was set' : `here the handler was there${isUnchanged ? ', and changed nothing that is recorded' : ''}`;
     const isIdle = isUnchanged && (look === 'missed' || this.idle.isOfLittle(number, target, type));
-    return lookOf(look, `a handler that comes late: ${this.words.action(number)} may find none; ${here}`, detailOf(look, 'slot', type), isIdle);
+    return lookOf(look, `a handler that comes late: ${this.words.action(number)} may find none; ${here}`, detailOf(look, 'slot', type), isIdle, look === 'late' && isAgain(type));
   }
 
   /**

@@ -109,7 +109,7 @@ class Problems {
   }
 
   /**
-   * The race that is shown is that of a group, if the problem has one, or one of the same two actions, and has the problem's pattern.
+   * The race that is shown has the problem's pattern, which its sentence says: that of a group, if it has it, one of the same two actions, or another one.
    * @param {Folded} problem @returns {Problem}
    */
   complete(problem) {
@@ -120,7 +120,7 @@ class Problems {
       return lead !== undefined && this.isOnePair(lead, race);
     };
     const isLike = (/** @type {number} */ race) => this.ofRaces[race].look.look === problem.look.look;
-    const first = leads.find(isLike) ?? problem.races.find((race) => isLike(race) && isBeside(race)) ?? leads[0] ?? problem.races.find(isLike) ?? problem.races[0];
+    const first = leads.find(isLike) ?? problem.races.find((race) => isLike(race) && isBeside(race)) ?? problem.races.find(isLike) ?? leads[0] ?? problem.races[0];
     const group = this.report.races[first].group - 1;
     if (problem.groups.includes(group)) this.leads[group] = first;
     return { ...problem, first, words: this.inWords.of(problem, first, (race) => this.ofRaces[race].sites[0]) };

@@ -2,7 +2,7 @@
 // The order of the list: by what a problem does to the user of the page. What a replay found comes first, then the pattern with its measured share of harm. It
 // is the severity of a race: harmful ones come first.
 
-const { IDLE } = require('./patterns/table.js');
+const { APART, HARMLESS, IDLE, SAME } = require('./patterns/table.js');
 
 /**
  * @typedef {import('./patterns/table.js').Look} Look
@@ -56,10 +56,10 @@ const kindOf = ({ look, detail }) => (detail ? `${look} ${detail}` : look);
 
 /**
  * The chance of harm of a pattern.
- * @param {Pick<Look, 'look'|'part'|'detail'|'isIdle'>} look
+ * @param {Pick<Look, 'look'|'part'|'detail'|'isIdle'|'comesAgain'>} look
  * @param {Shares} judged
  */
-const chanceOf = (look, judged) => (look.isIdle ? ASSUMED_OF_IDLE : shareOf(judged[kindOf(look)] || [0, 0], ASSUMED[look.part] ?? 0));
+const chanceOf = (look, judged) => (look.isIdle ? ASSUMED_OF_IDLE : shareOf(judged[kindOf(look)] || [0, 0], ASSUMED[look.comesAgain ? HARMLESS : look.part] ?? 0));
 
 /** @type {{[detail: string]: string}} */
 const OF_DETAIL = { '': '', choosing: ', of an event by which a user chooses,', element: ', of an element that is looked up,', read: ', of a field that is read later,' };
@@ -106,13 +106,16 @@ function rankOf(look, verdict, judged = JUDGED) {
 }
 
 /**
- * The section of a problem: that of its pattern, or that of late handlers that changed nothing, unless more differs without the handler.
+ * The section of a problem: that of its pattern; of late handlers that changed nothing, or whose event comes again, another one, unless a replay found that
+ * more differs without the handler; and one of its own if a replay found no visible difference. It never contradicts the usual change (fixes.js).
  * @param {Look} look
  * @param {Verdict} [verdict]
  */
 function partOf(look, verdict) {
-  const isChanging = verdict?.verdict === 'turned' && levelOf(verdict).level < LEVELS.event;
-  return look.isIdle && !isChanging ? IDLE : look.part;
+  const level = verdict?.verdict === 'turned' ? levelOf(verdict).level : LEVELS.event;
+  const part = level < LEVELS.event ? look.part : look.isIdle ? IDLE : look.comesAgain ? HARMLESS : look.part;
+  const isUsuallyNone = part === IDLE || part === HARMLESS || part === APART;
+  return level === LEVELS.same && !isUsuallyNone ? SAME : part;
 }
 
 /** @param {Rank} a @param {Rank} b */

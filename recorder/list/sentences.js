@@ -7,8 +7,9 @@
  */
 /**
  * What a sentence is made of: the two sides of a race in the order of the list, what acts in each as the subject of a sentence, the thing that they touch
- * and the field that a user fills in, in words. `isReplaced`: each side writes all of the thing, and keeps nothing of what was there.
- * @typedef {{sides: [Side, Side], subjects: [string, string], thing: string, field: string, modes: string, kind: string, isReplaced: boolean}} Facts
+ * and the field that a user fills in, in words. `isReplaced`: each side writes all of the thing, and keeps nothing of what was there. `otherwise`: what the
+ * browser does for an event without a handler.
+ * @typedef {{sides: [Side, Side], subjects: [string, string], thing: string, field: string, modes: string, kind: string, isReplaced: boolean, otherwise?: string}} Facts
  */
 
 /** @param {string} text */
@@ -35,7 +36,7 @@ const READS = { 'looks up': 'looks it up', 'writes again': 'writes it again' };
 
 /** @type {Record<LookKey, (facts: Facts) => string>} */
 const SENTENCES = {
-  late: ({ sides }) => `${eventOrActor(sides[1])} is lost until its handler is registered`,
+  late: ({ sides, otherwise }) => (otherwise ? `until its handler is registered, ${eventOrActor(sides[1])} only ${otherwise}` : `${eventOrActor(sides[1])} is lost until its handler is registered`),
   field: ({ field, modes }) => `what is typed into ${field} ${modes === 'ww' ? 'is overwritten' : 'may be overwritten before it is read'}`,
   act: ({ sides, thing }) => `${thing}, set after ${sides[1].act || 'an act of the user'}, may be overwritten`,
   undefined: ({ thing, kind }) => `${thing} may not be ${kind === 'element' ? 'in the page' : thing.startsWith('`') ? 'defined' : 'set'} yet`,
@@ -45,7 +46,7 @@ const SENTENCES = {
   flag: ({ thing }) => `${thing} is a flag that one side sets and the other side reads`,
   counter: ({ thing }) => `${thing} is counted up by both sides`,
   ticks: ({ thing }) => `two intervals of one delay tick in the order in which they were set, and reach ${thing}`,
-  same: ({ thing }) => `${thing} gets one value from both sides`,
+  same: ({ thing }) => `${thing} gets the same value from both sides`,
   scratch: ({ thing }) => `each callback that uses ${thing} writes all of it first`,
   acts: ({ thing }) => `two acts of a user reach ${thing}`,
 };

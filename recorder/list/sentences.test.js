@@ -21,6 +21,7 @@ const sentence = (look, given = {}) => sentenceOf(look, { sides: [SIDE, SIDE], s
 
 test('what a user loses is named by the event, the field or the act', () => {
   assert.strictEqual(sentence('late', { sides: [SIDE, { ...SIDE, event: 'input at input#q' }] }), 'An input at input#q is lost until its handler is registered');
+  assert.strictEqual(sentence('late', { sides: [SIDE, { ...SIDE, event: 'click at a "Start"' }], otherwise: 'follows the link' }), 'Until its handler is registered, a click at a "Start" only follows the link');
   assert.strictEqual(sentence('field', { modes: 'ww' }), 'What is typed into input#q is overwritten');
   assert.strictEqual(sentence('field'), 'What is typed into input#q may be overwritten before it is read');
   assert.strictEqual(sentence('act', { sides: [SIDE, { ...SIDE, act: 'the click at button#add' }] }), '`x`, set after the click at button#add, may be overwritten');

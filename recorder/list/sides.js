@@ -7,6 +7,7 @@ const { shown } = require('../common/shown.js');
 const { Callbacks } = require('./callbacks.js');
 const { ElementWords } = require('./element-words.js');
 const { fixOf } = require('./fixes.js');
+const { callOf, wayOf } = require('./registering-calls.js');
 const { sentenceOf } = require('./sentences.js');
 
 /**
@@ -21,18 +22,20 @@ const { sentenceOf } = require('./sentences.js');
  * @typedef {{verb: string, what: string, place: string, actor: string, event: string, act: string, reply: string, at: Place|null, own: Place|null}} Side
  */
 /**
- * The sentence without its place, that place, the two sides, and a usual change.
- * @typedef {{sentence: string, place: string, sides: [Side, Side], fix: string}} Told
+ * The sentence without its place, that place, the two sides, the call that registers a late handler, and a usual change.
+ * @typedef {{sentence: string, place: string, sides: [Side, Side], call: string, fix: string}} Told
  */
 
 const EVENTS = new Set(['fire', 'wfire', 'inline']);
 const NAME = /^[\w$.]+$/;
+/** Names of properties that no code can write after a dot; `(items)`, `[key]` and `#name` are none. */
+const KEY = /^(?![([#])[\p{L}\p{N}_$][^`"\\]{0,40}$/u;
 
 /**
  * A name in the marks of code, if it is a name.
  * @param {string} text
  */
-const marked = (text) => (text.includes(' ') ? `the ${text}`.replace(/^the the /, 'the ') : `\`${text}\``);
+const marked = (text) => (text.includes(' ') && !text.endsWith('"]') ? `the ${text}`.replace(/^the the /, 'the ') : `\`${text}\``);
 
 /** A part of `Entries`. */
 class Sides {
@@ -60,6 +63,15 @@ class Sides {
     return `${this.fileOf(file) ?? this.words.fileName(file)}:${line}${hasColumn || this.words.sources.isLong(place) ? `:${column}` : ''}`;
   }
 
+  /**
+   * The place of an access with the line of a library that makes it.
+   * @param {Place|null} at @param {number} line of the trace @param {string} location
+   */
+  placeAndWay(at, line, location) {
+    const way = wayOf(this.words, line, location, at);
+    return `${this.place(at)}${way ? ` (via ${this.place(way)})` : ''}`;
+  }
+
   /** The page, if no place is known. */
   page() {
     const { names } = this.problems;
@@ -78,7 +90,9 @@ class Sides {
     const facts = Number(digits) >= FIRST_OBJECT ? this.problems.names.objects?.[digits] : undefined;
     const name = this.words.unescape(spelled);
     if (facts?.scope !== undefined && NAME.test(name)) return name;
-    if (facts?.text && facts.scope === undefined && NAME.test(facts.text) && NAME.test(name)) return `${facts.text}.${name}`;
+    const owner = facts?.text && facts.scope === undefined && NAME.test(facts.text) ? facts.text : '';
+    if (owner && NAME.test(name)) return `${owner}.${name}`;
+    if (owner && KEY.test(name)) return `${owner}["${shown(name)}"]`;
     return this.elements.inText(location, text);
   }
 
@@ -106,7 +120,7 @@ class Sides {
     const verb = isEvent ? event?.verb || 'event' : this.verb(kind, modes[k], lines[k]);
     const what = isEvent ? event?.target || this.callbacks.of(number) : this.thing(location);
     return {
-      verb, what, at, place: this.place(at), actor: isEvent && event ? '' : this.callbacks.of(number), event: event?.words || '',
+      verb, what, at, place: this.placeAndWay(at, lines[k], location), actor: isEvent && event ? '' : this.callbacks.of(number), event: event?.words || '',
       act: this.actInWords(number), reply: this.replyOf(number), own: at && !this.words.isOfLibrary(at) ? at : this.callbacks.ownOrigin(number),
     };
   }
@@ -187,25 +201,55 @@ class Sides {
     const race = this.problems.report.races[index];
     const { kind } = this.words.location(race.location);
     const first = this.leading(race, look);
-    let sides = this.both(race, first);
-    if (isAlike(sides)) sides = this.words.apart(() => this.both(race, first));
-    if (isAlike(sides)) sides.forEach((side, k) => { side.actor = `${side.actor || side.what}, run ${this.words.nthOf(this.firstOf(race.actions[k === 0 ? first : 1 - first])) + 1}`; });
+    const sides = this.apart(race, first);
     const at = sides[0].own || sides[1].own || sides[0].at || sides[1].at;
     const thing = kind === 'handler' ? this.thing(race.location) : marked(this.thing(race.location));
     const subjects = this.callbacks.subjects(race.actions[first], race.actions[1 - first]);
-    const sentence = sentenceOf(look, { sides, subjects, thing, field: this.field(race.location), modes: race.modes, kind, isReplaced: this.problems.isReplaced(race) });
-    return { sentence, place: at ? this.place(at, false) : this.page(), sides, fix: fixOf(look, { kind, isOfUser: !!sides[0].act, modes: race.modes, ...this.targetOf(race) }) };
+    const event = this.lookUpOf(race);
+    const facts = { sides, subjects, thing, field: this.field(race.location), modes: race.modes, kind, isReplaced: this.problems.isReplaced(race), otherwise: event.otherwise };
+    return { sentence: sentenceOf(look, facts), place: at ? this.place(at, false) : this.page(), sides, call: callOf(this.words, race), fix: fixOf(look, { kind, isOfUser: !!sides[0].act, modes: race.modes, isInLibraries: this.isInLibraries(race), ...event }) };
   }
 
   /**
-   * The type of the event that looks for handlers, and the tag of its target.
+   * Of an event that looks for handlers: the tag of its target, what the browser does without a handler, and whether a library registers it.
    * @param {Race} race
    */
-  targetOf({ location, modes, actions }) {
+  lookUpOf({ location, modes, lines, actions }) {
     const reader = modes.indexOf('r');
     if (!location.startsWith('slot ') || reader < 0) return {};
+    const isByLibrary = !!wayOf(this.words, lines[1 - reader], location, this.words.placeOfAccess(lines[1 - reader], actions[1 - reader]));
     const { words: [word, , element, type] } = this.words.actions.list[this.firstOf(actions[reader])];
-    return EVENTS.has(word) ? { type: this.words.unescape(type), tag: word === 'wfire' ? '' : this.elements.tagOf(element) } : {};
+    if (!EVENTS.has(word) || word === 'wfire') return { isByLibrary };
+    return { isByLibrary, tag: this.elements.tagOf(element), otherwise: this.elements.withoutHandler(element, this.words.unescape(type)) };
+  }
+
+  /**
+   * Whether libraries make both accesses, and one of them in no call of the page's own code that is known.
+   * @param {Race} race
+   */
+  isInLibraries({ lines }) {
+    const places = lines.map((line) => this.words.placeOfLine(line));
+    return places.every((place) => place && this.words.isOfLibrary(place)) && lines.some((line) => !this.problems.names.callers?.[line]);
+  }
+
+  /**
+   * A race in one line: what its two sides do, where, and in which callbacks.
+   * @param {number} index of the race in the report, from 0 @param {LookKey} look
+   */
+  inLine(index, look) {
+    const race = this.problems.report.races[index];
+    return this.apart(race, this.leading(race, look)).map(({ verb, what, place, actor }) => `${verb} ${what}${place && ` at ${place}`}${actor && ` (${actor})`}`).join('; ');
+  }
+
+  /**
+   * The two sides of a race, told apart; if nothing else does, by the numbers of their runs.
+   * @param {Race} race @param {number} first @returns {[Side, Side]}
+   */
+  apart(race, first) {
+    let sides = this.both(race, first);
+    if (isAlike(sides)) sides = this.words.apart(() => this.both(race, first));
+    if (isAlike(sides)) sides.forEach((side, k) => { side.actor = `${side.actor || side.what}, run ${this.words.nthOf(this.firstOf(race.actions[k === 0 ? first : 1 - first])) + 1}`; });
+    return sides;
   }
 
   /** @param {Race} race @param {number} first @returns {[Side, Side]} */

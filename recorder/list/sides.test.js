@@ -45,6 +45,13 @@ test('two scripts of a page without a file, and replies of two folders', async (
   assert.deepStrictEqual(await actorsOf(replies, { requests }), ['reply of /one/data.json, requested at loader.js:20:5', 'reply of /two/data.json, requested at loader.js:20:5']);
 });
 
+test('a property whose name no code can write after a dot', async () => {
+  const objects = { 3000000: { made: 'object', text: 'seen' } };
+  const { text, report } = await judgeLines(['parse 0 1 async', 'parse 0 2 async', 'exec 1', 'w var 3000000 Europe%20(EU27)', 'exec 2', 'w var 3000000 Europe%20(EU27)']);
+  const listing = new Listing([new Problems(text, { ...NAMES, objects, elements: { 1: { tag: 'script', source: 'a.js' }, 2: { tag: 'script', source: 'b.js' } } }, report)], null);
+  assert.strictEqual(listing.entryOf(listing.told()[0].line).sentence, '`seen["Europe (EU27)"]` keeps what is written last, by the script b.js or by the script a.js');
+});
+
 test('handlers of two images that code made at one place', async () => {
   const pings = ['parse 0 1 inline', 'exec 1', 'new 0 2 plain', 'new 0 3 plain', 'on 1', 'on 2', 'set 1 0', 'set 2 0', 'timer 1', 'fire 1 2 ping', 'run 1 0 1', 'w var 0 x', 'close 1', 'timer 2', 'fire 2 3 ping', 'run 2 0 2', 'w var 0 x', 'close 2'];
   const images = { 2: { tag: 'img', source: 'a.png', place: PLACE }, 3: { tag: 'img', source: 'b.png', place: PLACE } };

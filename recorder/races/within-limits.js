@@ -13,7 +13,7 @@ const TOO_MUCH = /^too-many-(?:pairs|races|classes)$/;
 /** The share of the pairs that stay at each further try. */
 const KEPT = 0.75;
 /** The members of OUT.names.json whose keys are numbers of lines. */
-const BY_LINE = ['places', 'ways', 'values', 'befores', 'counts', 'kept', 'typed'];
+const BY_LINE = ['places', 'ways', 'callers', 'values', 'befores', 'counts', 'kept', 'typed'];
 
 const besides = (/** @type {string} */ traceFile) => `${traceFile.replace(/\.trace$/, '')}.names.json`;
 

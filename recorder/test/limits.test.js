@@ -49,13 +49,14 @@ test('a trace of too many races is judged without its counter, and its names kee
   const lines = ['webtrace 3', ...BEGIN, ...sets, ...actions, 'end'];
   fs.writeFileSync(file, `${lines.join('\n')}\n`);
   const places = Object.fromEntries(lines.flatMap((line, k) => (line.startsWith('w ') ? [[k + 1, line]] : [])));
-  fs.writeFileSync(file.replace(/trace$/, 'names.json'), JSON.stringify({ files: [], places, values: {} }));
+  fs.writeFileSync(file.replace(/trace$/, 'names.json'), JSON.stringify({ files: [], places, callers: places, values: {} }));
   const { report, leftOut } = await reportWithin(file);
   assert.deepStrictEqual(leftOut, [{ location: 'var 0 counter', accesses: 400, pairs: 79800 }]);
   assert.deepStrictEqual(report.races.map(({ location }) => location), ['var 0 both']);
   const left = fs.readFileSync(file, 'utf8').split('\n');
   const names = JSON.parse(fs.readFileSync(file.replace(/trace$/, 'names.json'), 'utf8'));
   assert.deepStrictEqual(Object.entries(names.places).map(([line, text]) => left[Number(line) - 1] === text), [true, true]);
+  assert.deepStrictEqual(names.callers, names.places);
 });
 
 test('one without names stays as it is', async () => {

@@ -51,6 +51,18 @@ test('counts whose value nobody uses', { timeout: 150000 }, async () => {
   assert.deepStrictEqual(unique(counted).sort(), ['both', 'calls', 'few', 'hits', 'small']);
 });
 
+test('the values of a style, by each name of a property', { timeout: 150000 }, async () => {
+  const { told, facts } = await recordRun('style-values.html');
+  const of = (/** @type {string} */ name) => told.filter(({ what }) => what === `style.${name} of p#text`).map(({ line, mode }) => [mode, facts.values[line], !!facts.kept[line]]);
+  for (const name of ['paddingTop', 'margin-top', 'cssFloat', 'webkitTextStrokeWidth', 'opacity']) {
+    const [[, value]] = of(name);
+    assert.match(value, /^s\w+$/, name);
+    assert.deepStrictEqual(of(name), [['w', value, false], ['r', value, true]], name);
+  }
+  const [[first, red], [second, blue]] = of('color');
+  assert.deepStrictEqual([first, second, red === blue], ['w', 'w', false]);
+});
+
 test('values, and writes of the value that was there', { timeout: 150000 }, async () => {
   const { told, facts } = await recordRun('globals-put-back.html');
   const of = (/** @type {string} */ name) => told.filter(({ what }) => what === name).map(({ line, mode }) => [mode, facts.values[line], facts.befores[line], !!facts.kept[line]]);

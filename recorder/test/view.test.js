@@ -96,10 +96,10 @@ test('groups in words, a filter, and what folds out', { timeout: 150000 }, async
   assert.strictEqual(await textOf(tab, '#found'), '3 problems: 3 groups with 4 races');
   assert.match(await textOf(tab, 'details.group .look'), /use before definition/);
   await choose(tab, 'order', 'size');
-  assert.match(await textOf(tab, 'details.group .sentence'), /^`cart` may not be defined yet at shop\.js:3$/);
+  assert.deepStrictEqual([await textOf(tab, 'details.group .at'), await textOf(tab, 'details.group .sentence')], ['shop.js:3', '`cart` may not be defined yet']);
   await choose(tab, 'kind', 'element');
   assert.strictEqual(await textOf(tab, '#found'), '1 problem: 1 group with 1 race');
-  assert.match(await textOf(tab, 'details.group .sentence'), /^`#<b>menu` may not be in the page yet at shop <i>$/);
+  assert.deepStrictEqual([await textOf(tab, 'details.group .at'), await textOf(tab, 'details.group .sentence')], ['shop <i>', '`#<b>menu` may not be in the page yet']);
   assert.strictEqual(await count(tab, 'main b, main i'), 0);
   await choose(tab, 'kind', 'all');
   await choose(tab, 'text', 'SUM');
@@ -110,9 +110,11 @@ test('groups in words, a filter, and what folds out', { timeout: 150000 }, async
   assert.strictEqual(await count(tab, 'details.group svg'), 1);
   assert.strictEqual(await count(tab, 'details.group svg .dot'), 2);
   assert.match(await textOf(tab, '.source .place'), /<script>alert\("x"\)<\/script>/);
-  assert.match(await textOf(tab, '.why'), /asked for by the script shop\.js/);
+  assert.match(await textOf(tab, '.sides'), /reads.*cart.*timeout, scheduled at shop\.js:3:1.*writes.*cart.*timeout, scheduled at shop\.js:4:1/);
+  assert.match((await textsOf(tab, '.detail')).join('\n'), /^recorded: it was there.*\nfix: use it after it is set/);
+  assert.match(await textOf(tab, '.why'), /requested by the script shop\.js/);
   await pick(tab, 7);
-  assert.match(await textOf(tab, '.picked'), /^Action 7, line 20: .*click/);
+  assert.match(await textOf(tab, '.picked'), /^Action 7, line 20 of the trace: .*click/);
   await pick(tab, 0);
   assert.match(await textOf(tab, '.picked'), /Action 0, .*Action 7, .*From action 0 these steps lead to action 7:.*\(action 7\) by rule 16/);
   await pick(tab, 4);

@@ -2,6 +2,7 @@
 // Which races the view shows, within the size that its model has left. Each race is in the line of one problem, so the sizes of all lines are all races.
 
 const { sizeOf } = require('./embedded.js');
+const { toldOf } = require('./lines.js');
 
 /**
  * @typedef {import('../list/listing.js').Listed} Listed
@@ -27,11 +28,13 @@ const MOST_FIRST_GROUPS = 20;
 function choose(model, listing) {
   const names = model.report.races.map((_, k) => listing.lineOfRace(0, k));
   const shown = new Shown(model, names, listing);
-  const problems = listing.inOrder().flatMap((line) => line.problems);
+  const lines = listing.inOrder();
+  const problems = lines.flatMap((line) => line.problems);
+  const others = new Map(lines.map((line) => [line.problems[0].name, line.problems.slice(1)]));
   const shares = sharesOf(model.report.races, names, problems, listing.runs[0].leads);
   const ofProblem = (/** @type {Listed} */ { name }) => [...shares.get(name)?.values() || []];
   const add = (/** @type {Share} */ share) => shown.addShare(share);
-  problems.every((problem) => shown.addProblem(problem) && ofProblem(problem).slice(0, MOST_FIRST_GROUPS).every(add));
+  problems.every((problem) => shown.addProblem(problem, others.get(problem.name)) && ofProblem(problem).slice(0, MOST_FIRST_GROUPS).every(add));
   problems.every((problem) => ofProblem(problem).slice(MOST_FIRST_GROUPS).every(add));
   names.every((_, k) => shown.isFull(k) || shown.addRace(k));
   return { problems: shown.problems, groups: shown.groups, races: [...shown.races.values()].sort((a, b) => a[0] - b[0]) };
@@ -105,16 +108,15 @@ class Shown {
   /**
    * Each `add..` returns whether there was room.
    * @param {Listed} problem
+   * @param {Listed[]} [others] of its line, if it is the first one
    */
-  addProblem(problem) {
-    const { listing } = this;
-    const { name, words, look, first } = problem;
+  addProblem(problem, others = []) {
+    const { name, look, first } = problem;
     if (this.model.left <= 0) return false;
     this.indices.set(name, this.problems.length);
     const race = raceInWords(problem, this.names);
     [race, first].forEach((one) => this.addRace(one));
-    const told = { summary: listing.summaryOf(problem), fix: listing.fixOf(problem) };
-    const plain = { name, words, ...told, first: race + 1, look: look.name, rank: look.rank, seen: look.seen };
+    const plain = { name, ...toldOf(this.listing, problem, others), first: race + 1, look: look.name, rank: look.rank };
     this.problems.push(plain);
     this.model.left -= sizeOf(plain);
     return true;
@@ -133,7 +135,7 @@ class Shown {
   addRace(race) {
     if (this.races.has(race)) return true;
     if (this.model.left <= 0) return false;
-    const packed = this.model.race(this.model.report.races[race], race, this.indexOf(race));
+    const packed = this.model.race(this.model.report.races[race], race, this.indexOf(race), this.listing);
     this.races.set(race, packed);
     this.counts.set(this.keyOf(race), (this.counts.get(this.keyOf(race)) || 0) + 1);
     this.model.left -= sizeOf(packed);

@@ -21,9 +21,12 @@ const ORDERS = [['looks', 'worst first'], ['size', 'largest first'], ['trace', '
 const ORDERS_OF_REPLAYS = [ORDERS[0], ['verdict', 'by what the other order does'], ...ORDERS.slice(1)];
 const MOST_LEFT_OUT = 8;
 
+/** How many of the counts of a report the page shows; the words of the others begin in docs/report.md. */
+const SHOWN_COUNTS = 1;
+
 /** @param {ViewModel} model */
 function counts({ totals, counts: others }) {
-  return [...Object.entries(totals), ...others].map(([name, number]) => `${number} ${name}`).join(', ');
+  return [...Object.entries(totals), ...others.slice(0, SHOWN_COUNTS)].map(([name, number]) => `${number} ${name}`).join(', ');
 }
 
 /**

@@ -8,6 +8,18 @@
  */
 
 /**
+ * What the list says of a problem.
+ * @param {Listing} listing
+ * @param {import('../list/listing.js').Listed} problem
+ * @param {import('../list/listing.js').Listed[]} others of its line, if it is the first one
+ * @returns {Pick<ShownProblem, 'place'|'sentence'|'sides'|'details'>}
+ */
+function toldOf(listing, problem, others) {
+  const { place, sentence, sides, details } = listing.entryOf(problem, others);
+  return { place, sentence, details, sides: sides.map((side) => [side.verb, side.what, side.place, [side.actor, side.also].filter(Boolean).join(' ')]) };
+}
+
+/**
  * How many lines there are, and how many of what is known.
  * @param {{isKnown: boolean}[]} lines
  * @returns {{problems: number, known?: number}}
@@ -30,7 +42,8 @@ function linesOf(listing, problems) {
 }
 
 /**
- * A model with the lines of the list as that is after replays, which move problems. The list can be one of several runs; the model is that of the first.
+ * A model with the lines of the list as that is after replays, which move problems and add what they found. The list can be one of several runs; the model is
+ * that of the first.
  * @template {Pick<import('./types').ViewModel, 'totals'|'problems'|'listed'>} M
  * @param {M} model
  * @param {Listing} listing
@@ -41,7 +54,20 @@ function arranged(model, listing) {
   const notShown = model.totals.problems - countsOf(model.listed).problems;
   const { problems, ...known } = countsOf(listed);
   const { groups, races } = model.totals;
-  return { ...model, listed, totals: { problems: problems + notShown, ...known, groups, races } };
+  const byName = new Map(listing.problems.map((one) => [one.name, one]));
+  const detailed = model.problems.map((one) => ({ ...one, details: detailsOf(listing, byName.get(one.name), one) }));
+  return { ...model, problems: detailed, listed, totals: { problems: problems + notShown, ...known, groups, races } };
 }
 
-module.exports = { arranged, countsOf, linesOf };
+/**
+ * What is known of a problem besides its sides, after replays. Places stay as the model has them: the list has those of files as paths.
+ * @param {Listing} listing
+ * @param {import('../list/listing.js').Listed|undefined} problem
+ * @param {ShownProblem} shown
+ */
+function detailsOf(listing, problem, { details }) {
+  const isOfPlace = (/** @type {string[]} */ [label]) => label === 'cause';
+  return problem ? [...details.filter(isOfPlace), ...listing.entries.details(problem).filter((one) => !isOfPlace(one))] : details;
+}
+
+module.exports = { arranged, countsOf, linesOf, toldOf };

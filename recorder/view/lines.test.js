@@ -29,7 +29,7 @@ function printed(listing) {
     const [, name, more = '0'] = /^ {4}(\w+) \(for races\.known\)(?:, and (\d+) more races?(?: in \d+ problems)?)?$/.exec(line) || [];
     if (name) lines.push({ part, name, races: 1 + Number(more) });
   }
-  return { lines, known: text.flatMap((line) => /^ {2}(\w+) /.exec(line)?.[1] ?? []), counts: /^\d+ problems \(/.test(text[0]) ? text[0] : '' };
+  return { lines, known: text.flatMap((line) => /^ {2}(\w+) /.exec(line)?.[1] ?? []), counts: /^\d+ problems \(/.test(text[0]) ? text.slice(0, text.findIndex((line) => line.endsWith(')')) + 1).map((line) => line.trim()).join(' ') : '' };
 }
 
 /**
@@ -99,7 +99,9 @@ test('after replays the view has the order of the list again', async () => {
     const before = listing.inOrder().map(({ part, problems: [{ name }] }) => `${part} ${name}`);
     listing.setVerdicts(0, races);
     moved += Number(listing.inOrder().some(({ part, problems: [{ name }] }, k) => before[k] !== `${part} ${name}`));
-    check(listing, arranged(built, listing));
+    const shownThen = arranged(built, listing);
+    check(listing, shownThen);
+    for (const { line, others } of listing.told()) assert.deepStrictEqual(shownThen.problems.find(({ name }) => name === line.name)?.details, listing.entryOf(line, others).details);
   }
   assert.ok(moved > 2, `${moved} lists have another order`);
 });

@@ -15,6 +15,7 @@ const { RULES } = require('./rules.js');
  * @typedef {import('./types').ShownAction} ShownAction
  * @typedef {import('./types').PackedRace} PackedRace
  * @typedef {import('../list/listing.js').Listing} Listing the list of the run that is shown
+ * @typedef {import('../list/sides.js').Sides} Sides
  */
 
 /** The bytes of the model: the page is to have at most 5 MB with its script, also if each of these is one more after the limit. */
@@ -27,6 +28,8 @@ const MOST_TO_EXPLAIN = 300;
 /** An action's words are at least this long if they have to be cut. */
 const SHORTEST_WORDS = 12;
 const KINDS = ['variable', 'element', 'handler'];
+/** @type {{[word: string]: string}} a word of races/actions.js, as the list has it */
+const ORIGINS = { 'asked for by': 'requested by' };
 
 /** Made by view.js for each view. */
 class Model {
@@ -79,7 +82,8 @@ class Model {
    * @param {Listing} listing
    */
   build(links, listing) {
-    const actions = this.buildActions();
+    const sides = listing.entries.sidesOf(0);
+    const actions = this.buildActions(sides);
     const shownLinks = links.slice(0, MOST_LINKS);
     this.left -= sizeOf(actions) + sizeOf(shownLinks);
     const { races, problems, groups } = choose(this, listing);
@@ -121,9 +125,12 @@ class Model {
 
   // ---- actions
 
-  /** All actions, with shorter words if these would be too much. */
-  buildActions() {
-    const words = this.actions.list.map(({ number }) => this.words.action(number));
+  /**
+   * All actions in the words of the list, with shorter ones if these would be too much.
+   * @param {Sides} sides
+   */
+  buildActions({ callbacks }) {
+    const words = this.actions.list.map(({ number }) => callbacks.withArticle(number));
     const size = sizeOf([...new Set(words)]);
     const most = size > MOST_OF_ACTIONS ? Math.max(SHORTEST_WORDS, Math.floor(MOST_OF_ACTIONS / words.length)) : Infinity;
     return this.actions.list.map((action, k) => this.action(action, words[k].length > most ? `${words[k].slice(0, most)}…` : words[k]));
@@ -138,7 +145,7 @@ class Model {
   action(action, words) {
     const own = this.actions.list[action.first];
     const { lane } = /** @type {{[word: string]: {lane: string}}} */ (RECORDS)[own.words[0]];
-    return [LANES.indexOf(lane), action.line, this.text(words), action.origins.map(({ action: from, word }) => [this.origin(word), from])];
+    return [LANES.indexOf(lane), action.line, this.text(words), action.origins.map(({ action: from, word }) => [this.origin(ORIGINS[word] || word), from])];
   }
 
   /**
@@ -183,21 +190,24 @@ class Model {
   // ---- races
 
   /**
-   * A race as the view has it.
+   * A race as the view has it, in the words of the list.
    * @param {Race} race
    * @param {number} index
    * @param {number} problem the index of the one in whose line it is
+   * @param {Listing} listing
    * @returns {PackedRace}
    */
-  race(race, index, problem) {
-    const { kind, text } = this.words.location(race.location);
+  race(race, index, problem, listing) {
+    const { kind } = this.words.location(race.location);
+    const sides = listing.entries.sidesOf(0);
+    const words = sides.inLine(index, listing.runs[0].ofRaces[index].look.look);
     const places = race.lines.map((line, k) => {
       const { key, added } = this.excerpts.add(this.words.placeOfAccess(line, race.actions[k]));
       this.left -= sizeOf(added);
       return key;
     });
-    return [index + 1, KINDS.indexOf(kind), this.text(text), race.location, race.modes, race.lines, race.actions, this.commonOrigin(race.actions), race.group - 1,
-      problem, this.text(this.words.race(race)), places];
+    return [index + 1, KINDS.indexOf(kind), this.text(sides.thing(race.location)), race.location, race.modes, race.lines, race.actions, this.commonOrigin(race.actions), race.group - 1,
+      problem, this.text(words), places];
   }
 }
 

@@ -28,16 +28,15 @@ export interface ShownLine {
 
 export interface ShownProblem {
   name: string;
-  words: string;
-  /** The first line of its entry in the list. */
-  summary: string;
-  /** A usual change. */
-  fix: string;
-  /** The number of the race of which the summary is. */
+  /** Its entry in the list: the place and the sentence of the first line, the two sides, and what else is known of it. */
+  place: string;
+  sentence: string;
+  sides: [verb: string, what: string, place: string, actor: string][];
+  details: [label: string, text: string][];
+  /** The number of the race of which the sentence is. */
   first: number;
   look: string;
   rank: number;
-  seen: string;
 }
 
 /** A place in a file (index in `files`); `own` is the text of its line if that is cut around the place. */

@@ -80,6 +80,25 @@ test('many actions with long words leave room for races', { timeout: 300000 }, a
 
 const SHOP = ['parse 0 1 async', 'parse 0 2 async', 'exec 1', 'w var 0 x', 'exec 2', 'w var 0 x'];
 
+test('actions, races and problems are in the words of the list', async () => {
+  /** @type {import('../list/types').Place} */
+  const ready = [0, 3, 3];
+  const lines = ['parse 0 1 plain', 'parse 0 2 inline', 'exec 2', 'set 1 0', 'timer 1', 'on 1', 'w slot 1 click/1', 'fire 1 1 click', 'r slot 1 click/1', 'run 1 0 1', 'w var 0 x', 'close 1'];
+  const files = [{ address: 'http://a/page.html', text: '<button>Buy now</button>\n<script>\n  $(f)\n' }, { address: 'http://a/jquery.js', text: 'a\n', isLibrary: true }];
+  const { model, page } = await modelOf(lines, {
+    files, elements: { 1: { tag: 'button', place: [0, 1, 1] }, 2: { tag: 'script', place: [0, 2, 1] } }, timeouts: { 1: { place: [1, 1, 1], ready } }, handlers: { 1: { type: 'click', target: 1, place: [0, 3, 9] } },
+    dispatches: { 1: { type: 'click', act: 1000 } }, places: { 8: [0, 3, 9] },
+  });
+  const [problem] = model.problems;
+  assert.deepStrictEqual([problem.place, problem.sentence], ['page.html:3', 'A click at button "Buy now" is lost until its handler is registered']);
+  assert.deepStrictEqual(problem.sides, [['registers', 'click of button "Buy now"', 'page.html:3:9', "callback of jQuery's ready, registered at page.html:3:3"], ['click at', 'button "Buy now"', 'page.html:1:1', '']]);
+  assert.deepStrictEqual(problem.details.map(([label]) => label), ['recorded', 'fix']);
+  for (const due of ["the callback of jQuery's ready, registered at page.html:3:3", 'the click at button "Buy now"', 'click of button "Buy now"',
+    'registers click of button "Buy now" at page.html:3:9 (callback of jQuery\'s ready, registered at page.html:3:3); click at button "Buy now" at page.html:1:1']) assert.ok(model.texts.includes(due), `${due}\n${model.texts.join('\n')}`);
+  assert.ok(model.origins.includes('requested by'));
+  assert.doesNotMatch(page, /nothing orders them|by way of|asked for/);
+});
+
 test('of a group with many races the first hundred are shown', async () => {
   const variables = Array.from({ length: 300 }, (none, k) => `w var 0 name${k}`);
   const { model, page } = await modelOf(['parse 0 1 async', 'parse 0 2 async', 'exec 1', ...variables, 'exec 2', ...variables]);

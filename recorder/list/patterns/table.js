@@ -7,6 +7,8 @@ const REST = 'other';
 const HARMLESS = 'often harmless';
 /** The section of late handlers that ran in the recording and changed nothing in it, and without which a user loses little (idle.js). */
 const IDLE = 'late handlers that changed nothing recorded';
+/** The section of problems that would be in another one, if a replay found no visible difference. */
+const SAME = 'no visible difference when replayed';
 /** The section of two acts of a user against each other: a page is not at fault for their order. */
 const APART = 'another input, not another order';
 
@@ -31,13 +33,15 @@ const LOOKS = {
 /**
  * A pattern as it was found in a race: `seen` says in words what was seen, and `here` which of the two orders the recording had; `rank` is its index in the
  * table. `detail` tells races of a pattern apart that do harm more often than others (list/rank.js). `isIdle`: the handler ran, changed nothing, and is of little
- * use to a user (idle.js).
- * @typedef {{look: LookKey, rank: number, name: string, part: string, seen: string, here: string, detail: Detail, isIdle: boolean}} Look
+ * use to a user (idle.js). `comesAgain`: the event of a late handler comes again by itself.
+ * @typedef {{look: LookKey, rank: number, name: string, part: string, seen: string, here: string, detail: Detail, isIdle: boolean, comesAgain?: boolean}} Look
  */
 /** @typedef {''|'choosing'|'element'|'read'} Detail an event by which a user chooses something is lost; an element is looked up; a field is read, not written again */
 
 /** Events by which a user chooses, changes or submits something. Others, as of the mouse that moves, of a key or of a scroll, come again soon. */
 const CHOOSING = new Set(['click', 'dblclick', 'change', 'input', 'submit']);
+/** Events that come again by themselves, with the next move of a pointer over an element. */
+const COMES_AGAIN = /^(?:mouse|pointer)(?:over|out|enter|leave|move|rawupdate)$/;
 
 /**
  * @param {LookKey} look
@@ -50,6 +54,9 @@ function detailOf(look, word, event) {
   return look === 'undefined' && word === 'elem' ? 'element' : '';
 }
 
+/** @param {string} event its type */
+const isAgain = (event) => COMES_AGAIN.test(event);
+
 const RANKS = /** @type {LookKey[]} */ (Object.keys(LOOKS));
 
 /** @type {Map<string, Look>} */
@@ -59,21 +66,21 @@ const known = new Map();
  * A pattern with what was seen: one object for all races that have it.
  * @param {LookKey} look @param {Detail} detail @returns {Look}
  */
-function lookOf(look, seen = '', detail = '', isIdle = false) {
+function lookOf(look, seen = '', detail = '', isIdle = false, comesAgain = false) {
   const key = `${look} ${detail} ${isIdle} ${seen}`;
   let one = known.get(key);
   const here = /(?:^|[;:] )here (.*)$/.exec(seen)?.[1] || '';
-  if (!one) known.set(key, one = { look, rank: RANKS.indexOf(look), ...LOOKS[look], seen, here, detail, isIdle });
+  if (!one) known.set(key, one = { look, rank: RANKS.indexOf(look), ...LOOKS[look], seen, here, detail, isIdle, comesAgain });
   return one;
 }
 
 /**
  * By which pattern a line is shown if it covers several, the lowest first: typed text that is lost comes before events, and a late handler that changed nothing
- * after all that may do harm.
- * @param {Pick<Look, 'look'|'rank'|'detail'|'isIdle'>} look
+ * or whose event comes again after all that may do harm.
+ * @param {Pick<Look, 'look'|'rank'|'detail'|'isIdle'|'comesAgain'>} look
  */
-function severityOf({ look, rank, detail, isIdle }) {
-  if (isIdle) return RANKS.indexOf('other') + 1 / 2;
+function severityOf({ look, rank, detail, isIdle, comesAgain }) {
+  if (isIdle || comesAgain) return RANKS.indexOf('other') + 1 / 2;
   if (look === 'field') return -2;
   if (look === 'late') return detail === 'choosing' ? -1 : RANKS.indexOf('act') + 1 / 2;
   return rank;
@@ -92,4 +99,4 @@ const isHarm = ({ part }) => part === LOSES || part === THROWS;
  */
 const isAlwaysTold = ({ look }) => look === 'field' || look === 'act' || look === 'undefined' || look === 'replies';
 
-module.exports = { LOOKS, RANKS, APART, IDLE, lookOf, detailOf, isWorse, isHarm, isAlwaysTold };
+module.exports = { LOOKS, RANKS, APART, HARMLESS, IDLE, SAME, isAgain, lookOf, detailOf, isWorse, isHarm, isAlwaysTold };

@@ -31,6 +31,7 @@ function takeNatives(window) {
     getBoundingClientRect: Element.prototype.getBoundingClientRect,
     elementFromPoint: Document.prototype.elementFromPoint,
     getComputedStyle: window.getComputedStyle.bind(window),
+    getPropertyValue: window.CSSStyleDeclaration.prototype.getPropertyValue,
     computedStyleMap: /** @type {Element & {computedStyleMap(): object}} */ (Element.prototype).computedStyleMap,
     styleOf: window.StylePropertyMapReadOnly && window.StylePropertyMapReadOnly.prototype.get,
     styleText: window.CSSStyleValue && window.CSSStyleValue.prototype.toString,

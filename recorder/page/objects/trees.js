@@ -36,11 +36,27 @@ const isOther = (attribute) => OTHERS.has(attribute) || sliceOf(attribute, 0, 2)
 const NO_STYLES = { length: 1, parentRule: 1, item: 1, getPropertyValue: 1, getPropertyPriority: 1, setProperty: 1, removeProperty: 1, __proto__: null };
 /** What of the classes of an element reads them. */
 const READS_CLASSES = new Set(['value', 'length', 'contains', 'toggle']);
-/** @param {string} name */
-function nameOfData(name) {
-  let text = 'data-';
+/** What the variables of a style begin with. */
+const OF_STYLE = 'style.';
+
+/** @param {string} name in camel case */
+function withDashes(name) {
+  let text = '';
   for (let k = 0; k < name.length; k++) text += name[k] >= 'A' && name[k] <= 'Z' ? `-${lowerCase(name[k])}` : name[k];
   return text;
+}
+
+/** @param {string} name */
+const nameOfData = (name) => `data-${withDashes(name)}`;
+
+/**
+ * The name that style sheets have for a property.
+ * @param {string} property
+ */
+function nameOfStyle(property) {
+  if (property === 'cssFloat') return 'float';
+  const text = withDashes(property);
+  return sliceOf(text, 0, 7) === 'webkit-' ? `-${text}` : text;
 }
 
 /** One for each recording: `recording.objects.trees`. */
@@ -158,12 +174,21 @@ class Trees {
    */
   notePart(node, name, site) {
     const kind = PARTS[name];
-    if (!kind) return false;
-    const found = findItem(this.getters, (one) => one.part === name && node instanceof one.owner);
-    if (!found) return false;
-    const part = apply(found.get, node, []);
+    const part = kind ? this.#partOf(node, name) : null;
+    if (!kind || part === null) return false;
     if (!this.kinds.holders.has(part)) this.kinds.holders.set(part, new Holder(kind, site, node));
     return true;
+  }
+
+  /**
+   * The style, the classes or the data of an element, as the browser has them; null if it has none.
+   * @param {object} node
+   * @param {import('../types').VariableName} name
+   * @returns {object|null}
+   */
+  #partOf(node, name) {
+    const found = findItem(this.getters, (one) => one.part === name && node instanceof one.owner);
+    return found ? apply(found.get, node, []) : null;
   }
 
   /**
@@ -214,10 +239,22 @@ class Trees {
    * @returns {unknown}
    */
   valueOf(node, name) {
-    if (typeof name !== 'string' || name === CONTENT || node.nodeType !== 1 || sliceOf(name, 0, 6) === 'style.') return UNKNOWN;
+    if (typeof name !== 'string' || name === CONTENT || node.nodeType !== 1) return UNKNOWN;
+    if (sliceOf(name, 0, OF_STYLE.length) === OF_STYLE) return this.#styleOf(node, sliceOf(name, OF_STYLE.length));
     const found = getOwnPropertyDescriptor(node, name);
     if (found) return found.value;
     return this.page ? apply(this.page.natives.getAttribute, node, [name]) : undefined;
+  }
+
+  /**
+   * The text of a property of an element's own style; '' if it is not set.
+   * @param {Element} node
+   * @param {string} property as code names it: `paddingTop`, `padding-top`
+   * @returns {unknown}
+   */
+  #styleOf(node, property) {
+    const style = this.#partOf(node, 'style');
+    return style !== null && this.page ? apply(this.page.natives.getPropertyValue, /** @type {CSSStyleDeclaration} */ (style), [nameOfStyle(property)]) : UNKNOWN;
   }
 
   // ---- changes

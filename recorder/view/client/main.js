@@ -10,8 +10,8 @@ import { isHarmless, rankOfVerdict } from './replays.js';
  * @typedef {import('./model.js').Line} Line
  */
 
-/** A section of the list (list/patterns/table.js) that is closed at first. */
-const IDLE = 'late handlers that changed nothing recorded';
+/** The sections of the list (list/patterns/table.js) that are closed at first. */
+const CLOSED = ['late handlers that changed nothing recorded', 'no visible difference when replayed'];
 
 /**
  * Whether the filter shows a race: its text is compared with `searched` (model.js), the sentence and the location of a race. A reload loses it.
@@ -84,8 +84,8 @@ function piecesByVerdict(some) {
  */
 function section(part, some) {
   const heading = [make('h2', {}, part), make('span', { class: 'size' }, counted(some.length, 'problem'))];
-  if (part === IDLE) return fold('section', some, ...heading);
-  return [make('section', { class: 'section' }, make('header', {}, ...heading), ...piecesByVerdict(some))];
+  if (CLOSED.includes(part)) return fold('section', some, ...heading);
+  return [make('section', { class: 'section' }, make('header', {}, ...heading), pieces(some, lineBox))];
 }
 
 /**

@@ -107,14 +107,14 @@ function whyBox(race) {
   const box = make('section', { class: 'why' }, make('h4', {}, 'Where the two come from'));
   const columns = make('div', { class: 'columns' });
   race.actions.forEach((action, k) => {
-    const column = make('div', {}, make('p', { class: k ? 'second' : 'first' }, `Action ${action}, line ${race.lines[k]}: ${wordsOf(action)}`));
+    const column = make('div', {}, make('p', { class: k ? 'second' : 'first' }, `Action ${action}, line ${race.lines[k]} of the trace: ${wordsOf(action)}`));
     column.append(originList(action));
     columns.append(column);
   });
   const { common } = race;
   const told = common === null
-    ? 'Nothing that was recorded asked for both.'
-    : `Both come from action ${common}: ${wordsOf(common)}. From there on no rule leads from the one to the other.`;
+    ? 'Nothing in the recording requested both.'
+    : `Both come from action ${common}: ${wordsOf(common)}. After that, nothing orders the two.`;
   box.append(columns, make('p', {}, told));
   box.append(waysFrom(common === null ? 0 : common, race.actions));
   return box;

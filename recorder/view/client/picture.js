@@ -128,7 +128,7 @@ class Picture {
       const action = this.actionAt(svg, event);
       if (action === undefined) return;
       picks = picks.length === 1 && picks[0] !== action ? [picks[0], action].sort((a, b) => a - b) : [action];
-      box.replaceChildren(...picks.map((one) => make('p', {}, `Action ${one}, line ${model.actions[one][1]}: ${wordsOf(one)}`)));
+      box.replaceChildren(...picks.map((one) => make('p', {}, `Action ${one}, line ${model.actions[one][1]} of the trace: ${wordsOf(one)}`)));
       box.append(picks.length === 2 ? pairBox(picks[0], picks[1]) : originList(action));
     });
     return box;

@@ -18,7 +18,7 @@ import { sourceBox } from './source.js';
 function raceBox(race) {
   const box = make('article', { class: 'race' });
   const sources = make('div', { class: 'columns' });
-  sources.append(sourceBox(race.places[0], 'First:'), sourceBox(race.places[1], 'Second:'));
+  sources.append(sourceBox(race.places[0], 'Came first:'), sourceBox(race.places[1], 'Came second:'));
   box.append(sources, ...replayBox(race), new Picture(race).draw(), whyBox(race));
   box.append(make('p', { class: 'lines' }, `In the trace: lines ${race.lines.join(' and ')}, ${race.spelled}`));
   return box;
@@ -33,10 +33,10 @@ function raceBox(race) {
 function groupBox({ number, size, first, races }, problem = undefined, line = undefined) {
   const again = [first, ...races].find(isReplayed) || first;
   const badges = [...(problem ? lookBadges(problem, line) : []), ...(line ? verdictBadgeOfLine(line) : verdictBadge(again))];
-  const summary = make('summary', {}, badge(first.kind), make('span', { class: 'sentence' }, problem?.summary || first.words), ...badges,
+  const summary = make('summary', {}, badge(first.kind), ...(problem ? headOf(problem) : [make('span', { class: 'sentence' }, first.words)]), ...badges,
     make('span', { class: 'size' }, counted(size, 'race')));
   return foldable('group', summary, () => {
-    const box = make('div', { class: 'inside' }, ...(problem ? [make('p', { class: 'lines' }, first.words), ...toldBoxes(problem)] : []), raceBox(first));
+    const box = make('div', { class: 'inside' }, ...(problem ? toldBoxes(problem) : []), raceBox(first));
     if (again !== first) box.append(make('p', { class: 'lines' }, `Another race of its group was run again: ${again.words}`), ...replayBox(again));
     const others = races.filter((race) => race !== first);
     if (others.length) box.append(otherRaces(others));
@@ -51,8 +51,8 @@ function groupBox({ number, size, first, races }, problem = undefined, line = un
  * @param {ShownProblem} problem
  * @param {Line} [line]
  */
-function lookBadges({ look, rank, seen }, line) {
-  const badges = look === 'other' ? [] : [make('span', { class: `badge look rank${rank}`, title: seen }, look)];
+function lookBadges({ look, rank }, line) {
+  const badges = look === 'other' ? [] : [make('span', { class: `badge look rank${rank}` }, look)];
   return line?.isKnown ? [make('span', { class: 'badge look known' }, 'known'), ...badges] : badges;
 }
 
@@ -65,22 +65,36 @@ function lineBox(line) {
   if (groups.length === 1) return groupBox(groups[0], problem, line);
   const races = groups.reduce((sum, { size }) => sum + size, 0);
   const first = raceOf.get(problem.first) || groups[0].first;
-  const summary = make('summary', {}, badge(first.kind), make('span', { class: 'sentence' }, problem.summary), ...lookBadges(problem, line), ...verdictBadgeOfLine(line),
+  const summary = make('summary', {}, badge(first.kind), ...headOf(problem), ...lookBadges(problem, line), ...verdictBadgeOfLine(line),
     make('span', { class: 'size' }, `${counted(groups.length, 'group')}, ${counted(races, 'race')}${problems.length > 1 ? ` in ${problems.length} problems` : ''}`));
   return foldable('problem', summary, () => {
     const box = make('div', { class: 'inside' }, ...toldBoxes(problem));
-    box.append(pieces(groups, (group) => groupBox(group, group.problem === problem ? undefined : group.problem)));
+    box.append(pieces(groups, (group) => groupBox(group, hasOwnWords(group, problem) ? group.problem : undefined)));
     return box;
   });
 }
 
 /**
- * What was seen of the pattern, and a usual change.
+ * Whether a group has the words of its problem: that of its first race, unless the line has them.
+ * @param {Group} group
+ * @param {ShownProblem} shown of the line
+ */
+const hasOwnWords = ({ problem, first }, shown) => problem !== shown && problem.first === first.number;
+
+/**
+ * The first line of a problem's entry in the list.
  * @param {ShownProblem} problem
  */
-function toldBoxes({ look, seen, fix }) {
-  const boxes = seen ? [make('p', { class: 'seen' }, `It looks like: ${look}. In this recording: ${seen}.`)] : [];
-  return [...boxes, make('p', { class: 'fix' }, make('strong', {}, 'Usual change: '), fix)];
+const headOf = ({ place, sentence }) => [make('code', { class: 'at' }, place), make('span', { class: 'sentence' }, sentence)];
+
+/**
+ * The other lines of a problem's entry in the list.
+ * @param {ShownProblem} problem
+ */
+function toldBoxes({ name, sides, details }) {
+  const rows = sides.map((side) => make('tr', {}, ...side.map((text) => make('td', {}, text))));
+  const lines = details.map(([label, text]) => make('p', { class: 'detail' }, make('strong', {}, `${label}: `), text));
+  return [make('table', { class: 'sides' }, ...rows), ...lines, make('p', { class: 'lines' }, `${name} (for races.known)`)];
 }
 
 /** @param {Race[]} others */
