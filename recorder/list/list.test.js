@@ -154,7 +154,7 @@ test('one problem of two clicks, told with both', async () => {
   assert.strictEqual(list[0].look.name, 'late handler');
 });
 
-test('a late handler of a mouse that moves is in a section of its own, at the end, if it ran and only read; if it wrote, it is not', async () => {
+test('a late handler of a mouse that moves is in a section of its own, at the end, if it ran and only read; if it wrote, it is often harmless', async () => {
   const late = (/** @type {string} */ access) => ['parse 0 1 plain', 'parse 0 2 async', 'parse 0 3 async', 'exec 2', 'w var 0 count', 'exec 3', 'on 1', 'w slot 1 mouseover/1', 'w var 0 count',
     'fire 1 1 mouseover', 'r slot 1 mouseover/1', 'run 1 0 1', access, 'close 1'];
   /** @type {Given} */
@@ -164,7 +164,7 @@ test('a late handler of a mouse that moves is in a section of its own, at the en
   assert.match(idle[0], /^2 problems \(other: 1; late handlers that changed nothing recorded: 1\)$/);
   assert.ok(idle.indexOf('-- late handlers that changed nothing recorded') > idle.indexOf('-- other'));
   assert.ok(idle.includes('    recorded: the handler was there, and changed nothing that is recorded'));
-  assert.match((await lines('w var 0 other'))[0], /^2 problems \(loses what a user does: 1; other: 1\)$/);
+  assert.match((await lines('w var 0 other'))[0], /^2 problems \(other: 1; often harmless: 1\)$/);
 });
 
 test('the place of a library\'s call is that of the page\'s own code from which it comes', async () => {
