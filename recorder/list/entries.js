@@ -100,7 +100,7 @@ class Entries {
   fixOf(line) {
     const part = this.listing.partOf(line);
     if (part === IDLE) return OF_IDLE;
-    const { fix, sides } = this.toldOf(line);
+    const { fix } = this.toldOf(line);
     if (part === HARMLESS && line.look.comesAgain) return OF_AGAIN;
     return part === SAME ? fixOfSame(fix) : fix;
   }

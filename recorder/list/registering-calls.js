@@ -60,4 +60,4 @@ function alsoByCall(own, others) {
   return all.length ? `(also ${all.slice(0, MOST_NAMED).join(', ')}${all.length > MOST_NAMED ? ', ..' : ''}: ${BY_CALL})` : '';
 }
 
-module.exports = { alsoByCall, callOf, typeOf, wayOf };
+module.exports = { alsoByCall, callOf, wayOf };

@@ -67,7 +67,7 @@ const known = new Map();
  * @param {LookKey} look @param {Detail} detail @returns {Look}
  */
 function lookOf(look, seen = '', detail = '', isIdle = false, comesAgain = false) {
-  const key = `${look} ${detail} ${isIdle} ${seen}`;
+  const key = `${look} ${detail} ${isIdle} ${comesAgain} ${seen}`;
   let one = known.get(key);
   const here = /(?:^|[;:] )here (.*)$/.exec(seen)?.[1] || '';
   if (!one) known.set(key, one = { look, rank: RANKS.indexOf(look), ...LOOKS[look], seen, here, detail, isIdle, comesAgain });
