@@ -19,7 +19,7 @@ const MINIFIED = '(function(a,b){var c=a.d||(a.d={}),e=/x[a-z]+/gi,z;function f(
 /** A piece of a page, by which the parser of pages is loaded too. */
 const PAGE = '<div class="a" id=b><p>Some text &amp; <a href="c.html" title=\'d\'>more</a><img src=e><table><tr><td>f</table><select><option>g</select></div><script src=h></script>';
 
-/** Marks code that no page has: a readable script, and a minified one. */
+/** Marks code that no page has: a readable script, and a minified one. Called by recording/recorder.js. */
 function warmUp() {
   const readable = fs.readFileSync(require.resolve('/usr/share/nodejs/acorn'), 'utf8');
   /** @type {import('./syntax/types').Options} */

@@ -1,6 +1,6 @@
 'use strict';
-// What distinguishes an element without an id from others of its kind, for a reader of the list: the text after its tag in the page's source, or its classes.
-// It names an element that has none.
+// What distinguishes an element without an id (an unnamed `div`) from others of its kind, for a reader of the list: the text after its tag in the page's
+// source, or its classes. It names an element that has none.
 
 const { shown } = require('../common/shown.js');
 
@@ -16,7 +16,7 @@ const CLASS = /\sclass\s*=\s*(?:"([^"]*)"|'([^']*)'|([^\s>"']+))/i;
 const CHARACTERS = { amp: '&', lt: '<', gt: '>', quot: '"', '#39': "'", nbsp: ' ' };
 
 /**
- * The label of an element, as ` "Buy now"` or `.menu.open`; '' if its tag says nothing.
+ * The label of an element, as ` "Buy now"` or `.menu.open`; '' if its tag says nothing. Called by element-words.js.
  * @param {string} source of the page, from the tag on
  * @param {string} tag
  */

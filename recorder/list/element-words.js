@@ -10,6 +10,7 @@ const { labelOf } = require('./element-labels.js');
 /** Elements that a page has once. */
 const ONCE = new Set(['html', 'head', 'body', 'HTMLDocument', 'Window']);
 
+/** Made by sides.js, as its `elements`. */
 class ElementWords {
   /**
    * @param {import('../races/words.js').Words} words

@@ -58,7 +58,7 @@ class Entries {
   }
 
   /**
-   * The sides of the races of a run.
+   * The sides of the races of a run. Called by loads-run.js.
    * @param {number} run
    */
   sidesOf(run) {
@@ -69,7 +69,7 @@ class Entries {
   }
 
   /**
-   * What the list says of a problem, by its worst race.
+   * What the list says of a problem, by its worst race. Called by loads-run.js.
    * @param {Listed} line
    */
   toldOf({ run, first, worst, look }) {
@@ -77,7 +77,7 @@ class Entries {
   }
 
   /**
-   * The place of a problem's first line.
+   * The place of a problem's first line. Called by listing.js.
    * @param {Listed} line
    */
   placeOf(line) {
@@ -85,7 +85,7 @@ class Entries {
   }
 
   /**
-   * The first line of a problem.
+   * The first line of a problem. Called by listing.js.
    * @param {Listed} line
    */
   summaryOf(line) {
@@ -93,14 +93,19 @@ class Entries {
   }
 
   /**
-   * A usual change for a problem.
+   * A usual change for a problem. Called by listing.js.
    * @param {Listed} line
    */
   fixOf(line) {
     return this.listing.partOf(line) === IDLE ? OF_IDLE : this.toldOf(line).fix;
   }
 
-  /** @param {Listed} line @param {Listed[]} others @returns {Entry} */
+  /**
+   * Called by listing.js.
+   * @param {Listed} line
+   * @param {Listed[]} others
+   * @returns {Entry}
+   */
   of(line, others) {
     const { sentence, place, sides } = this.toldOf(line);
     const { look, name } = line;
@@ -112,7 +117,7 @@ class Entries {
   }
 
   /**
-   * What takes each side's place in the other races of a problem.
+   * What takes each side's place in the other races of a problem. Called by loads-run.js.
    * @param {Listed} line
    */
   alsoOf({ run, first, races, sites: [one, two], look }) {

@@ -79,6 +79,7 @@ class Bundle {
 }
 
 /**
+ * Called by page-script.js and view/html.js.
  * @param {string} entry the file of the module whose exports are wanted
  * @param {string[]} parameters names that the modules know
  * @returns {string} a function of the parameters that runs the modules and returns the exports

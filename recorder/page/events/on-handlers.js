@@ -66,7 +66,7 @@ class OnHandlers {
   // ---- properties
 
   /**
-   * The number of the handler in an `on..` property.
+   * The number of the handler in an `on..` property. Called by handlers.js.
    * @param {Target} target
    * @param {string} type
    */
@@ -75,6 +75,7 @@ class OnHandlers {
   }
 
   /**
+   * Hooks an `on..` property: a read and a write of the slot; the page reads back what it wrote.
    * @param {object} owner
    * @param {string} name
    */
@@ -137,7 +138,7 @@ class OnHandlers {
   // ---- attributes
 
   /**
-   * Registers the handlers in the attributes of a new element.
+   * Registers the handlers in the attributes of a new element. Called by page/document/made.js and page/document/tree.js.
    * @param {Element} element
    */
   readAttributes(element) {
@@ -149,7 +150,7 @@ class OnHandlers {
   }
 
   /**
-   * Whether an attribute of a name is a handler.
+   * Whether an attribute of a name is a handler. Called by page/document/attributes.js.
    * @param {string} name
    */
   isHandler(name) {
@@ -167,7 +168,7 @@ class OnHandlers {
   }
 
   /**
-   * Registers a handler whose text is in an attribute, as the parser or a script put it there.
+   * Registers a handler whose text is in an attribute, as the parser or a script put it there. Called by page/document/attributes.js.
    * @param {Element} element
    * @param {string} type
    * @param {string} text
@@ -189,7 +190,8 @@ class OnHandlers {
   }
 
   /**
-   * A script has called what can change or remove a handler attribute. A removal also removes the handler of the property.
+   * A script has called what can change or remove a handler attribute. A removal also removes the handler of the property. Called by
+   * page/document/attributes.js.
    * @param {Element} element
    * @param {string} type
    * @param {string|null} before
@@ -236,7 +238,7 @@ class OnHandlers {
   }
 
   /**
-   * The handler of an attribute begins to run; its text calls this.
+   * The handler of an attribute begins to run; its text calls this. Called by page/helpers/runs.js.
    * @param {Target} element
    * @param {Event|undefined} event
    * @param {string} type

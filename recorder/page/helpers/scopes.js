@@ -3,7 +3,10 @@
 import { UNKNOWN } from '../log/values.js';
 import { Scope } from '../objects/scopes.js';
 
-/** @param {import('../types').Objects} objects */
+/**
+ * Called by helpers.js.
+ * @param {import('../types').Objects} objects
+ */
 function helpersOfScopes({ recording, sites, scopes, variables }) {
   const { objects: lastObjects, staged: lastStaged } = sites;
   const { staged } = variables;

@@ -12,12 +12,15 @@ const ALL_OTHERS = 1 << SINGLE_ITEMS;
 const ALL_ITEMS = 2 * ALL_OTHERS - 1;
 const NOT_STAGED = -1;
 
-/** @param {number} item */
+/**
+ * Called by page/helpers/properties.js.
+ * @param {number} item
+ */
 const bitOf = (item) => 1 << (item < SINGLE_ITEMS ? item : SINGLE_ITEMS);
 
 /**
  * What each site had in the running piece: `objects`, the last one, or null; `keys`, its last key; `items`, the bits of the items;
- * `staged`, the place of its write among the staged ones. And how many objects it had in which action.
+ * `staged`, the place of its write among the staged ones. And how many objects it had in which action. Made by objects.js, as its `sites`.
  */
 class Sites {
   /** @param {import('../types').Recording} recording */
@@ -96,7 +99,10 @@ class Sites {
     return true;
   }
 
-  /** @param {number} site */
+  /**
+   * Whether a site has had too many objects in the running action: further ones are not recorded, which is counted.
+   * @param {number} site
+   */
   #isTooMany(site) {
     const { actions, log } = this.recording;
     if (this.countedIn[site] !== actions) {
@@ -109,7 +115,7 @@ class Sites {
   }
 
   /**
-   * The site has had a key of its object.
+   * The site has had a key of its object. Called by page/helpers/properties.js.
    * @param {object} object
    * @param {import('../types').VariableName} key
    * @param {number} site

@@ -65,7 +65,7 @@ class Lines extends Shared {
   }
 
   /**
-   * A step of the parser of a document.
+   * A step of the parser of a document. Called by page/document/tree.js and page/page.js.
    * @param {number} document
    * @param {string} step
    */
@@ -75,7 +75,7 @@ class Lines extends Shared {
   }
 
   /**
-   * A step of the parser that makes no element of the page.
+   * A step of the parser that makes no element of the page. Called by page/document/reactions.js and page/document/texts.js.
    * @param {number} document
    * @param {import('../types').Facts} facts
    */
@@ -86,14 +86,14 @@ class Lines extends Shared {
     this.beginParse(document, `${number} plain`);
   }
 
-  /** Accesses that were looked at so far are looked at again. */
+  /** Accesses that were looked at so far are looked at again. Called by page/objects/objects.js. */
   startPiece() {
     this.pieces++;
     if (this.objects) this.objects.forget();
   }
 
   /**
-   * An event of a dispatch has begun.
+   * An event of a dispatch has begun. Called by page/events/dispatches.js and page/tasks/jobs.js.
    * @param {import('../types').NewDispatch} dispatch
    */
   noteInside(dispatch) {
@@ -130,7 +130,8 @@ class Lines extends Shared {
   }
 
   /**
-   * A note of an action that may be over; without one, of the first action of the trace.
+   * A note of an action that may be over; without one, of the first action of the trace. Called by page/accesses/fields.js, page/document/elements.js and
+   * joins.js.
    * @param {import('../types').Moment|null|undefined} moment
    * @param {string} line
    * @param {import('../types').Place} [place]
