@@ -29,7 +29,7 @@ class CommandFault extends Error {
 }
 
 /**
- * The status of a fault whose message says all, or null for an internal error.
+ * The status of a fault whose message says all, or null for an internal error. Called by index-task.js and load-judge.js.
  * @param {unknown} fault
  */
 function statusOf(fault) {

@@ -2,7 +2,7 @@
 // The end of a command: a pipe that is read slowly gets all that was written before the process exits. Standard output is flushed.
 
 /**
- * Ends this process with a status, once standard output and standard error have taken everything, or take no more.
+ * Ends this process with a status, once standard output and standard error have taken everything, or take no more. Called by command.js.
  * @param {number} status
  */
 function endWith(status) {

@@ -1,5 +1,6 @@
 'use strict';
-// The options of the interface for programs, as arguments of the commands, which check them. An object of options becomes command line arguments (flags).
+// The options of the interface for programs, as arguments of the commands, which check them. An object of options becomes command line arguments (flags). Used
+// by index.js.
 
 /**
  * How a page is recorded; docs/using.md describes each option of er_record.

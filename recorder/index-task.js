@@ -38,6 +38,7 @@ class TaskFault extends Error {
 }
 
 /**
+ * The task of `record()` and of `attach()`.
  * @param {RecordTask|AttachTask} task
  * @returns {Promise<Recording>}
  */
@@ -45,7 +46,7 @@ async function record({ trace, args, ...task }) {
   const words = task.name === 'attach' ? [`--attach=${task.endpoint}`, '--', task.endpoint] : ['--', task.url];
   const { options, positionals: [given] } = parseCommand('er_record', [...args, ...words]);
   const recorder = recorderFor(given, options);
-  const { failed, incomplete } = await recordInto(given, trace, options, recorder);
+  const { failed, incomplete } = await recordInto('er_record', given, trace, options, recorder);
   if (failed) throw new TaskFault(failed);
   const { intake, loadTime, errors } = recorder;
   const why = incomplete === STATUS.ok ? null : incomplete === STATUS.notDone ? 'NOT_DONE' : 'NO_PAGE';
@@ -136,6 +137,7 @@ async function replayPage(trace, race, options, hasTime) {
 }
 
 /**
+ * The task of `replay()` for a page load of a suite: runs the suite's command again.
  * @param {string} trace
  * @param {string} problem
  * @param {CommandOptions} options
@@ -153,6 +155,7 @@ async function replayInSuite(trace, problem, options) {
 }
 
 /**
+ * The answer to a task: its result, or the status and the message of its error.
  * @param {Task} task
  * @returns {Promise<Answer>}
  */

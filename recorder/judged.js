@@ -6,7 +6,8 @@ const { runProgram } = require('./races/program.js');
 const { viewTrace, besides } = require('./view.js');
 
 /**
- * Has a trace analyzed. The report is that of the trace as it is then: what the analyzer can't take is left out of it.
+ * Has a trace analyzed. The report is that of the trace as it is then: what the analyzer can't take is left out of it. Called by load-judge.js and
+ * page-races.js.
  * @param {string} traceFile
  * @param {string} command whose name messages start with
  * @param {import('./view.js').ViewOptions} options

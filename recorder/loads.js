@@ -43,7 +43,7 @@ const MOST_ALONE = 20;
 const OF_DRIVER = /while nothing recorded ran/;
 
 /**
- * Has the loads analyzed, and writes their reports and views. Of each load only what the list needs stays in memory.
+ * Has the loads analyzed, and writes their reports and views. Of each load only what the list needs stays in memory. Called by index-task.js.
  * @param {string[]} files the traces
  * @param {'er_suite'|'er_page'} command
  * @param {Known|null} known
@@ -120,7 +120,7 @@ function copyViews(judged, folder) {
 }
 
 /**
- * Writes index.html. Returns its path.
+ * Writes index.html. Returns its path. Called by index-task.js.
  * @param {LoadsListing} listing
  * @param {Judged[]} judged
  * @param {string} folder without --html
@@ -134,7 +134,7 @@ function writeIndex(listing, judged, folder, html) {
 }
 
 /**
- * One list of analyzed loads.
+ * One list of analyzed loads. Called by index-task.js.
  * @param {Judged[]} judged
  * @param {Known|null} known
  * @param {ListOptions} options
@@ -146,7 +146,7 @@ function listingOf(judged, known, options, folder) {
 }
 
 /**
- * Writes the outputs that the options request.
+ * Writes the outputs that the options request. Called by index-task.js.
  * @param {LoadsListing} listing
  * @param {Judged[]} judged
  * @param {ListOptions} options
@@ -182,7 +182,7 @@ async function listLoads(judged, failed, known, options, { command, folder, page
 }
 
 /**
- * Has loads analyzed and listed. Returns the status.
+ * Has loads analyzed and listed. Returns the status. Called by many-pages.js, page-flow.js and suite.js.
  * @param {string[]} files the traces
  * @param {Known|null} known
  * @param {ListOptions} options

@@ -1,6 +1,6 @@
 'use strict';
 // er_page --list FILE and --sitemap URL: records the pages of a list, several at once and each in a process of its own, and lists the races of all. Many URLs,
-// crawled from a file or a sitemap.
+// crawled from a file or a sitemap. A call that was interrupted goes on with the pages that are left.
 
 const { fork } = require('node:child_process');
 const fs = require('node:fs');
@@ -186,7 +186,8 @@ async function pagesOf(options) {
 }
 
 /**
- * Records the pages of a list, except those that an earlier call has recorded completely, and lists the races of all. Returns the status.
+ * Records the pages of a list, except those that an earlier call has recorded completely, and lists the races of all. Returns the status. Called by
+ * page-races.js.
  * @param {CommandOptions} options
  */
 async function listPages(options) {

@@ -71,7 +71,7 @@ function printLoads(files) {
 }
 
 /**
- * Records a flow, and lists the races of all its loads. Returns the status.
+ * Records a flow, and lists the races of all its loads. Returns the status. Called by page-races.js.
  * @param {string} given the address of its first page
  * @param {CommandOptions} options
  */

@@ -66,7 +66,7 @@ async function recordRuns({ given, folder, options }, first) {
   for (let k = 0; k < options.runs; k++) {
     const own = { ...options, seed: options.seed + k, salt: k };
     const file = fileOfRun(folder, k);
-    const ending = await recordInto(given, file, own, k === 0 ? first : new Recorder(given, own));
+    const ending = await recordInto('er_page', given, file, own, k === 0 ? first : new Recorder(given, own));
     if (ending.failed) return { files, failed: ending.failed, incomplete };
     incomplete = Math.max(incomplete, ending.incomplete);
     files.push(file);
@@ -184,7 +184,10 @@ async function listRuns(call, runs, known, recorder, incomplete) {
   return replayed || status;
 }
 
-/** @param {string[]} args */
+/**
+ * Checks the arguments, and records one page, the pages of a list, or a flow.
+ * @param {string[]} args
+ */
 async function main(args) {
   const { options, positionals, isHelp } = parseCommand('er_page', args);
   if (isHelp) return printHelp('er_page');

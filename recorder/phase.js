@@ -22,7 +22,7 @@ setInterval(() => {
 }, every);`;
 
 /**
- * Does work with a line every five seconds.
+ * Does work with a line every five seconds. Called by loads.js, page-races.js and record.js.
  * @template T
  * @param {string} words what is done
  * @param {() => T|Promise<T>} work
@@ -40,7 +40,8 @@ async function phase(words, work) {
 }
 
 /**
- * Does work that keeps this thread busy. A signal ends the process at once: the files that were written stay, and no other process runs for it.
+ * Does work that keeps this thread busy. A signal ends the process at once: the files that were written stay, and no other process runs for it. Called by
+ * loads.js and view.js.
  * @template T
  * @param {() => T} work
  * @returns {T}

@@ -4,7 +4,7 @@
 const ON_TERMINAL = 250;
 const ELSEWHERE = 5000;
 
-/** Made by the commands that record or replay. */
+/** Made by the commands that record or replay: record.js, page-flow.js, replay-progress.js. */
 class Progress {
   /**
    * @param {NodeJS.WriteStream} stream
@@ -18,6 +18,7 @@ class Progress {
     this.timer = setInterval(() => this.show(), stream.isTTY ? ON_TERMINAL : ELSEWHERE);
   }
 
+  /** Called by record.js. */
   seconds() {
     return (Date.now() - this.start) / 1000;
   }
@@ -29,7 +30,7 @@ class Progress {
     this.last = line;
   }
 
-  /** Makes room for another line. */
+  /** Makes room for another line. Called by replay-progress.js. */
   clear() {
     if (this.stream.isTTY) this.stream.write('\r\x1b[K');
   }

@@ -18,11 +18,11 @@ async function main() {
   const [key, ...args] = JSON.parse(process.env.ER_PAGE_ARGUMENTS || '[]');
   delete process.env.ER_PAGE_ARGUMENTS; // the browser need not have it
   const { options, positionals: [given, traceFile] } = parseCommand('er_record', args);
-  const { failed, incomplete } = await recordInto(given, traceFile, options);
+  const { failed, incomplete } = await recordInto('er_page', given, traceFile, options);
   /** @type {Recorded} */
   const recorded = { format: 1, key, failed, incomplete };
   writeWhole(besides(traceFile, '.recorded.json'), `${JSON.stringify(recorded)}\n`);
   return failed || incomplete;
 }
 
-runCommand('er_record', main);
+runCommand('er_page', main);

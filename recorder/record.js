@@ -1,6 +1,6 @@
 'use strict';
 // er_record URL OUT.trace: records a page. Writes OUT.trace and OUT.names.json. Also for er_page, er_replay, pages of a list and programs (index-task.js), which
-// call recordInto.
+// call recordInto with the name of their command, with which each line on standard error begins.
 
 const { printError } = require('./common/output.js');
 const { runCommand, printHelp } = require('./command.js');
@@ -24,6 +24,9 @@ const { Recorder, RecordingFault } = require('./recording/recorder.js');
  * @typedef {{failed: number, incomplete: number}} Ending
  */
 
+/** @typedef {'er_record'|'er_page'|'er_replay'} Command the command that the user called */
+/** @typedef {{command: Command, recorder: Recorder|AttachedRecorder}} Call */
+
 /**
  * What holds with and without a recording.
  * @param {Recorder|AttachedRecorder} recorder
@@ -35,12 +38,12 @@ function printPage({ errors, loadTime }) {
 
 /**
  * Prints what was recorded, and what was not.
- * @param {Recorder|AttachedRecorder} recorder
+ * @param {Call} call
  * @param {string[]} lines what the limits left out
  * @param {number} seconds
  */
-function printRecorded(recorder, lines, seconds) {
-  printError(`er_record: ${recorder.intake.actions} actions in ${seconds.toFixed(1)} s`);
+function printRecorded({ command, recorder }, lines, seconds) {
+  printError(`${command}: ${recorder.intake.actions} actions in ${seconds.toFixed(1)} s`);
   if (recorder instanceof Recorder && recorder.options.keepsGoing) recorder.acts.failures().forEach((line) => printError(`  not done: ${line}`));
   [...recorder.losses(), ...lines].forEach((line) => printError(`  not recorded: ${line}`));
   printPage(recorder);
@@ -48,31 +51,31 @@ function printRecorded(recorder, lines, seconds) {
 
 /**
  * Prints what a recording lacks of what was to be recorded. Returns the status of that.
- * @param {Recorder|AttachedRecorder} recorder
+ * @param {Call} call
  */
-function printIncomplete(recorder) {
+function printIncomplete({ command, recorder }) {
   if (!(recorder instanceof Recorder)) return STATUS.ok;
   const failures = recorder.options.keepsGoing ? [] : recorder.acts.failures();
-  failures.forEach((line) => printError(`er_record: not done: ${line}`));
+  failures.forEach((line) => printError(`${command}: not done: ${line}`));
   const cut = recorder.cut();
-  if (cut) printError(`er_record: the recording is not complete: ${cut}`);
+  if (cut) printError(`${command}: the recording is not complete: ${cut}`);
   if (failures.length) return STATUS.notDone;
   return cut ? STATUS.noPage : STATUS.ok;
 }
 
 /**
  * Records, until the end or a signal.
- * @param {Recorder|AttachedRecorder} recorder
+ * @param {Call} call
  * @returns {Promise<number>} the status of a recording that failed, or 0
  */
-async function runRecorder(recorder) {
+async function runRecorder({ command, recorder }) {
   try {
     await stoppable(() => recorder.interrupt(), () => recorder.record());
     return STATUS.ok;
   } catch (fault) {
     if (!(fault instanceof RecordingFault)) throw fault;
     process.stderr.write(process.stderr.isTTY ? '\r\x1b[K' : '');
-    printError(`er_record: ${fault.message}`);
+    printError(`${command}: ${fault.message}`);
     return fault.status;
   }
 }
@@ -96,30 +99,32 @@ async function writeRecorded(recorder, options, traceFile) {
 
 /**
  * Records a page into a file. Fails with a WriteFault, before anything is recorded if the folder takes no files.
+ * @param {Command} command
  * @param {string} given the page: an address, a file or a folder; with --attach HOST:PORT
  * @param {string} traceFile the names are written beside it
  * @param {RecordingOptions} options
  * @param {Recorder|AttachedRecorder} recorder that of `recorderFor` if `options.attach` can be set: the default has a browser of its own
  * @returns {Promise<Ending>}
  */
-async function recordInto(given, traceFile, options, recorder = new Recorder(given, options)) {
+async function recordInto(command, given, traceFile, options, recorder = new Recorder(given, options)) {
+  const call = { command, recorder };
   if (!options.isRaw) [traceFile, namesFile(traceFile)].forEach(mustTake);
   const progress = new Progress(process.stderr, () => `${recorder.intake.actions} actions, ${recorder.openRequests()} open requests`);
   let failed;
   try {
-    failed = await runRecorder(recorder);
+    failed = await runRecorder(call);
   } finally {
     progress.end();
   }
   if (options.isRaw) {
-    printError(`er_record: nothing recorded, ${progress.seconds().toFixed(1)} s`);
+    printError(`${command}: nothing recorded, ${progress.seconds().toFixed(1)} s`);
     printPage(recorder);
     return { failed, incomplete: STATUS.ok };
   }
   const { lines, isStopped } = await writeRecorded(recorder, options, traceFile);
-  printRecorded(recorder, lines, progress.seconds());
+  printRecorded(call, lines, progress.seconds());
   if (isStopped) return { failed: STATUS.stopped, incomplete: STATUS.ok };
-  return { failed, incomplete: failed ? STATUS.ok : printIncomplete(recorder) };
+  return { failed, incomplete: failed ? STATUS.ok : printIncomplete(call) };
 }
 
 /**
@@ -139,7 +144,7 @@ async function main(args) {
   const { attach } = options;
   checkArguments(positionals, attach ? ['OUT.trace'] : ['URL', 'OUT.trace']);
   const given = attach ? `${attach.host}:${attach.port}` : positionals[0];
-  const { failed, incomplete } = await recordInto(given, positionals[positionals.length - 1], options, recorderFor(given, options));
+  const { failed, incomplete } = await recordInto('er_record', given, positionals[positionals.length - 1], options, recorderFor(given, options));
   return failed || incomplete;
 }
 

@@ -16,7 +16,8 @@ const LONGEST_RUN = 20000;
 const CONNECTIONS = /^(EventSource|WebSocket)$/;
 
 /**
- * Whether a page is recorded so that its races can be replayed by themselves. Not if a person acts, or if a profile or a file changes with each run.
+ * Whether a page is recorded so that its races can be replayed by themselves. Not if a person acts, or if a profile or a file changes with each run. Called by
+ * page-races.js.
  * @param {CommandOptions} options
  */
 function mayReplayByItself({ isReplayed, isNeverReplayed, runs, isHeaded, userDataDir, writesKnown }) {
@@ -24,7 +25,7 @@ function mayReplayByItself({ isReplayed, isNeverReplayed, runs, isHeaded, userDa
 }
 
 /**
- * Why a recorded page is not run again by itself, in words; '' if it is.
+ * Why a recorded page is not run again by itself, in words; '' if it is. Called by page-races.js.
  * @param {import('./recording/recorder.js').Recorder} recorder
  */
 function whyNotByItself({ responses, intake, startTime, endTime }) {

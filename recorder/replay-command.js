@@ -42,7 +42,8 @@ const MOST_IF_REQUESTED = 20;
 const LANES = 2;
 
 /**
- * Whether races can be replayed: each replay is analyzed several times, so answers must come at once. If not, a line says why.
+ * Whether races can be replayed: each replay is analyzed several times, so answers must come at once. If not, a line says why. Called by page-races.js and
+ * replay-race.js.
  * @param {string} command
  */
 function canReplay(command) {
@@ -254,7 +255,7 @@ class ReplayCommand {
 }
 
 /**
- * Runs the page again for each race. Returns 0, or the status with which it ended before its end.
+ * Runs the page again for each race. Returns 0, or the status with which it ended before its end. Called by page-races.js and replay-race.js.
  * @param {import('./recording/recorder.js').Recorder} recorder
  * @param {Options} options
  * @param {string} traceFile

@@ -75,7 +75,7 @@ async function recordAgain(address, options, traceFile, wanted, recorders) {
     const browser = recorders[0]?.runningBrowser();
     const recorder = new Recorder(address, withEnd({ ...options, keepsBrowser: true, ...browser ? { browser } : {}, fixed: chance(options) }));
     recorders.push(recorder);
-    const { failed, incomplete } = await recordInto(address, traceFile, options, recorder);
+    const { failed, incomplete } = await recordInto('er_replay', address, traceFile, options, recorder);
     if (failed) return { status: failed };
     const { status, view } = await stoppable(() => process.exit(STATUS.stopped), async () => {
       writeWhole(besides(traceFile, '.report'), (await runProgram([], traceFile)).output);
@@ -117,7 +117,7 @@ function optionsAgain(recorded, given, hasTime) {
 }
 
 /**
- * Records the page of a trace once more, finds the wanted races in the new recording, and replays them. Returns the exit status.
+ * Records the page of a trace once more, finds the wanted races in the new recording, and replays them. Returns the exit status. Called by index-task.js.
  * @param {string} trace
  * @param {CommandOptions} given
  * @param {boolean} hasTime whether --time is among the arguments

@@ -82,7 +82,7 @@ async function load(address, { headers, credentials }) {
 }
 
 /**
- * The pages of a sitemap, or of the sitemaps of an index.
+ * The pages of a sitemap, or of the sitemaps of an index. Called by many-pages.js.
  * @param {string} address
  * @param {Access} access
  */

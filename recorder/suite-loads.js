@@ -103,7 +103,7 @@ function textOf({ text, lines = {} }) {
 }
 
 /**
- * The races of all loads of a run by their names, and by those of their problems: of each name the first.
+ * The races of all loads of a run by their names, and by those of their problems: of each name the first. Called by suite-replays.js.
  * @param {string[]} files
  */
 async function racesByName(files) {

@@ -96,6 +96,7 @@ async function writeView(traceFile, report, { known = null, isLinkedLater = fals
 }
 
 /**
+ * Called by page-races.js and replay-command.js.
  * @param {string} traceFile
  * @param {Shown} shown
  */
@@ -116,7 +117,7 @@ function leftOutLines(all, file) {
 }
 
 /**
- * Has a trace analyzed and writes its view.
+ * Has a trace analyzed and writes its view. Called by index-task.js, judged.js and replay-race.js.
  * @param {string} traceFile
  * @param {string} command whose name messages start with
  * @param {ViewOptions} [options]

@@ -7,8 +7,10 @@ const path = require('node:path');
 /** What a module defines: a function, a class, a constant, a method. */
 const DEFINITION = /^(?:async function|function|class|const| {2}(?:static |async |\*|#)*(?!if|for|while|switch|return|super)(?=[\w$#]+\([^)]*\) \{$))\s*([\w$#]+)(?:\(([^)]*)\))?/;
 /** What is code or comment of a module. The rest (data, pages) is not searched. */
-const IS_MODULE = /(?:\.js|\.d\.ts|^launch)$/;
+const IS_MODULE = /(?:\.js|\.d\.ts|^launch|^start|^install|^run-tests)$/;
 const LEFT_OUT = new Set(['pages', 'out', 'node_modules', 'corpus', 'applications', 'profile']);
+/** Who uses a module or a definition, at the end of its comment: shown, but not searched. */
+const USERS = /\b(?:Made|Called|Used|Extended) by (?:(?:, | and )?[\w./-]+\.js)+(?:, as its `\w+`)?\./g;
 /** A file or a folder in a row. */
 const FILE = /`([\w./-]+(?:\.(?:js|ts|css)|\/|\/launch))`/g;
 
@@ -22,6 +24,9 @@ const FILE = /`([\w./-]+(?:\.(?:js|ts|css)|\/|\/launch))`/g;
  */
 /** @typedef {{file: string, line: number, text: string}} Heading */
 /** @typedef {{modules: Module[], rows: Row[], headings: Heading[]}} Index */
+
+/** @param {string} comment */
+const withoutUsers = (comment) => comment.replace(USERS, '');
 
 /**
  * The first comment of a module, and its definitions with the comments before them.
@@ -45,7 +50,8 @@ function partsOf(text) {
     }
     if (!isComment[k]) from = k + 1;
   });
-  return { about, definitions, isComment, lines, head: head + rest };
+  const told = lines.filter((line, k) => isComment[k] && k >= head + rest).map((line) => line.replace(/^[\s/*]+/, '')).join(' ');
+  return { about, definitions, isComment, lines, told: withoutUsers(told), head: head + rest };
 }
 
 /** A module: most have no word of a query, so their lines are read late. */
@@ -60,7 +66,7 @@ class Module {
     this.lower = text.toLowerCase();
   }
 
-  /** `about` is its first comment, which ends before line `head` (from 0); `isComment` has whether each of its `lines` is one. */
+  /** `about` is its first comment, which ends before line `head` (from 0); `isComment` has whether each of its `lines` is one, `told` the others in one text. */
   get parts() {
     return this.#parts ??= partsOf(this.text);
   }
@@ -135,4 +141,4 @@ function headings() {
 /** @returns {Index} */
 const readIndex = () => ({ modules: modulesIn(__dirname), rows: rowsIn(fs.readFileSync(path.join(__dirname, 'README.md'), 'utf8')), headings: headings() });
 
-module.exports = { readIndex, withPaths };
+module.exports = { readIndex, withPaths, withoutUsers, USERS };

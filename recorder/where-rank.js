@@ -2,23 +2,27 @@
 // Which modules and rows of the map fit the words of a question best (BM25F), for where.js. A word counts more in a name, a first comment or a question of the
 // map than in other comments, there more than in code, and a rare word more than a frequent one.
 
-const { stemOf, stemsIn, synonymsOf, isStop } = require('./where-words.js');
+const path = require('node:path');
+const { withoutUsers } = require('./where-index.js');
+const { stemsIn, wholeStem, synonymsOf, isStop, withoutSigns } = require('./where-words.js');
 
 /** What a word counts in each field of a module, and how much less in a long one (0: not less; 1: in one of twice the usual length half). */
 const FIELDS = {
-  name: { weight: 50, length: 0.2 }, about: { weight: 16, length: 0.5 }, asked: { weight: 5, length: 0.3 }, told: { weight: 1.8, length: 0.6 },
+  name: { weight: 50, length: 0.2 }, folder: { weight: 10, length: 0.2 }, about: { weight: 24, length: 0.5 }, asked: { weight: 10, length: 0.3 }, told: { weight: 1.8, length: 0.6 },
   defined: { weight: 3.5, length: 0.6 }, quoted: { weight: 1, length: 0.7 }, code: { weight: 0.3, length: 0.8 },
 };
 const FIELD_NAMES = /** @type {Field[]} */ (Object.keys(FIELDS));
 /** A word counts more with each occurrence, up to a limit: so much weight makes half of it. */
-const HALF = 10;
+const HALF = 13;
 /** What stands for a word counts less than itself: another word, and a longer one that starts with it. */
 const SYNONYM = 0.4;
 const START = 0.4;
+/** And two words that are the name of a module together, beside each of them. */
+const PAIR = 0.3;
 /** The share of the words that a module has, to this power, is a factor of its score. */
 const ALL_WORDS = 0.5;
 /** So much of the score of its best definition a module has more. */
-const OF_DEFINITION = 0.2;
+const OF_DEFINITION = 0.27;
 /** A file that a row of the map names after another one has this share of the row's question. */
 const LATER = 0.5;
 /** The definitions of so many modules are compared with the words. */
@@ -52,23 +56,25 @@ function sizeOf(counts) {
   return sum;
 }
 
+/** @param {Module} module */
+const baseOf = ({ name }) => path.basename(name).replace(/\..*/, '');
+
 /**
  * The fields of a module except `asked`.
  * @param {Module} module
  * @returns {Entry}
  */
 function entryOf(module) {
-  const { about, definitions, isComment, lines, head } = module.parts;
-  const [name, told, defined, quoted, code] = [1, 2, 3, 4, 5].map(() => /** @type {Counts} */ (new Map()));
-  count(name, module.name.replace(/\.(?:d\.ts|js)$/, ''));
-  const parts = definitions.map((definition) => count(count(new Map(), definition.name, FIELDS.defined.weight), definition.comment, FIELDS.told.weight));
+  const { about, definitions, isComment, lines, told: comments } = module.parts;
+  const [name, folder, told, defined, quoted, code] = [1, 2, 3, 4, 5, 6].map(() => /** @type {Counts} */ (new Map()));
+  count(name, baseOf(module));
+  count(folder, path.dirname(module.name).replace(/\W/g, ' '));
+  count(told, comments);
+  const parts = definitions.map((definition) => count(count(new Map(), definition.name, FIELDS.defined.weight), withoutUsers(definition.comment), FIELDS.told.weight));
   let of = -1;
   lines.forEach((line, k) => {
     while (of + 1 < definitions.length && definitions[of + 1].from <= k + 1) of++;
-    if (isComment[k]) {
-      if (k >= head) count(told, line);
-      return;
-    }
+    if (isComment[k]) return;
     const [, remark] = /(?:^|\s)\/\/ (.*)/.exec(line) || [];
     if (remark) count(told, remark);
     count(code, line);
@@ -80,7 +86,7 @@ function entryOf(module) {
     texts.forEach((text) => count(parts[of], text, FIELDS.quoted.weight));
   });
   definitions.forEach((definition) => count(defined, definition.name));
-  return { module, fields: { name, about: count(new Map(), about), asked: new Map(), told, defined, quoted, code }, parts };
+  return { module, fields: { name, folder, about: count(new Map(), withoutUsers(about)), asked: new Map(), told, defined, quoted, code }, parts };
 }
 
 /**
@@ -119,6 +125,7 @@ class Corpus {
   /** @param {Index} index */
   constructor({ modules, rows }) {
     this.entries = modules.filter(isSearched).map(entryOf);
+    this.names = new Set(this.entries.map(({ module }) => wholeStem(baseOf(module))));
     const byName = new Map(this.entries.map((entry) => [entry.module.name, entry]));
     for (const row of rows) {
       row.parts.forEach(({ file, text }, k) => {
@@ -185,20 +192,24 @@ function countIn(counts, forms) {
  * @returns {{wanted: Wanted[], missing: string[]}}
  */
 function wordsOf(given, corpus) {
-  const all = given.flatMap((text) => text.split(/[^\w$-]+/).map((word) => word.replace(/^[-$]+|-+$/g, ''))).filter(Boolean);
+  const all = given.flatMap((text) => withoutSigns(text).split(/[^\w$.-]+/).map((word) => word.replace(/^[-$.]+|[-.]+$/g, ''))).filter(Boolean);
   const telling = all.filter((word) => !isStop(word));
   /** @type {Map<string, Wanted>} */
   const wanted = new Map();
   /** @type {string[]} */
   const missing = [];
   for (const word of telling.length ? telling : all) {
-    const stem = stemOf(word.toLowerCase().replace(/[-_]/g, ''));
+    const stem = wholeStem(word);
     const whole = corpus.formsOf(stem);
-    const parts = whole.length ? [] : stemsIn(word).filter((one) => one !== stem && !isStop(one));
+    const parts = whole.length && !word.includes('.') ? [] : stemsIn(word).filter((one) => one !== stem && !isStop(one));
     const found = [{ stem, forms: whole }, ...parts.map((one) => ({ stem: one, forms: corpus.formsOf(one) }))].filter(({ forms }) => forms.length);
     if (!found.length) missing.push(word);
     for (const one of found) wanted.set(one.stem, { forms: one.forms, rarity: 0, word });
   }
+  all.slice(1).forEach((word, k) => {
+    const stem = wholeStem(all[k] + word);
+    if (!isStop(word) && !isStop(all[k]) && corpus.names.has(stem)) wanted.set(stem, { forms: [{ stems: [stem], quality: PAIR }], rarity: 0, word: `${all[k]} ${word}` });
+  });
   return { wanted: [...wanted.values()], missing };
 }
 

@@ -29,6 +29,8 @@ const MOST_OF_COMMENT = 200;
 
 /** @param {string} text @param {number} most */
 const cut = (text, most) => (text.length > most ? `${text.slice(0, most)}..` : text);
+/** @param {FoundRow['row']} row */
+const isRecipe = ({ question }) => question.startsWith('Recipe');
 /** @param {FoundModule} found */
 const isOfTests = ({ module: { name } }) => name.startsWith('test/');
 
@@ -89,7 +91,7 @@ function linesOfHeadings({ headings }, wanted) {
 function linesFor(words, index) {
   const { missing, rows, modules, wanted } = rank(words, index);
   const best = rows.filter(({ score, share }) => share >= LEAST_ROW && score >= LEAST * rows[0].score).slice(0, MOST_ROWS);
-  const isFirst = (/** @type {FoundRow} */ { row, share }) => share >= FIRST_ROW && (!modules.length || isOfTests(modules[0]) || row.files.includes(modules[0].module.name));
+  const isFirst = (/** @type {FoundRow} */ { row, share }) => share >= FIRST_ROW && (!modules.length || isOfTests(modules[0]) || isRecipe(row) || row.files.includes(modules[0].module.name));
   const near = modules.filter(({ score }, k) => k < LEAST_MODULES || score >= LEAST * modules[0].score);
   const told = (/** @type {FoundRow[]} */ some) => some.map((row) => lineOfRow(row, modules));
   const lines = missing.length ? [`no file has: ${missing.join(', ')}`] : [];
@@ -101,10 +103,24 @@ function linesFor(words, index) {
   return lines;
 }
 
+const USAGE = 'usage: recorder/where.js WORD..';
+const HELP = `${USAGE}
+
+Prints where a thing is decided in the recorder: the rows of the map (recorder/README.md) and the
+modules that fit the words best. WORD.. is a question, a few words of it, or a name of the code.
+
+  recorder/where.js Where is a redirect refused?
+  recorder/where.js early click
+  recorder/where.js startTask`;
+
 /** @param {string[]} words */
 function main(words) {
+  if (words.length === 1 && /^(?:-h|--help)$/.test(words[0])) {
+    print(HELP);
+    return;
+  }
   if (!words.length) {
-    printError('usage: recorder/where.js WORD..');
+    printError(`${USAGE}\nRun recorder/where.js --help for examples`);
     process.exitCode = 2;
     return;
   }

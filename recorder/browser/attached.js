@@ -18,7 +18,7 @@ const LARGEST_ANSWER = 1 << 20;
 const LOOPBACK = /^(?:localhost|127(?:\.\d{1,3}){3}|::1)$/;
 
 /**
- * The endpoint of HOST:PORT, or null if it is not one of this machine.
+ * The endpoint of HOST:PORT, or null if it is not one of this machine. Called by options/values.js.
  * @param {string|undefined} text
  * @returns {Endpoint|null}
  */
@@ -72,6 +72,7 @@ async function pathOfSocket(endpoint) {
   return new URL(address).pathname;
 }
 
+/** Made by driven/endpoint.js, driven/main.js and recording/attached-recorder.js. */
 class AttachedChromium extends Protocol {
   constructor() {
     super();
@@ -110,7 +111,7 @@ class AttachedChromium extends Protocol {
   }
 }
 
-/** The first tab of a browser, as it is. */
+/** The first tab of a browser, as it is. Made by recording/attached-recorder.js. */
 class AttachedTab extends Tab {
   /**
    * The session of the browser's first tab. Chromium's list has no order, so a line names the tab if there are several.

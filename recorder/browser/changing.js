@@ -9,13 +9,13 @@ const { LocalServer } = require('./local-server.js');
 const READS = new Set(['GET', 'HEAD', 'OPTIONS', 'TRACE']);
 
 /**
- * Whether a request may change something, by its method.
+ * Whether a request may change something, by its method. Called by browser/responses/changes-guard.js.
  * @param {string} method
  */
 const mayChange = (method) => !READS.has(method.toUpperCase());
 
 /**
- * Whether an address is one of this machine: a file of the folder that is served, or a web server here.
+ * Whether an address is one of this machine: a file of the folder that is served, or a web server here. Called by local-network.js and recording/session.js.
  * @param {string} address
  */
 function isOfThisMachine(address) {
@@ -23,7 +23,7 @@ function isOfThisMachine(address) {
 }
 
 /**
- * The requests of a run that may have changed something, each once.
+ * The requests of a run that may have changed something, each once. Called by replay-command.js and replay/runs.js.
  * @param {string[]} asked `METHOD ADDRESS`
  * @param {{has: (address: string) => boolean}|null} [folder] the served one
  * @returns {{text: string, isForeign: boolean}[]} foreign if a server got it, not the served folder
@@ -34,7 +34,7 @@ function changing(asked, folder = null) {
 }
 
 /**
- * A request as it is listed.
+ * A request as it is listed. Called by browser/responses/changes-guard.js, browser/responses/keep-answers.js and browser/responses/network-log.js.
  * @param {{method: string, url: string}} request
  */
 const requestText = ({ method, url }) => `${method} ${withoutCredentials(url)}`;

@@ -88,9 +88,12 @@ function spawnBrowser(flags, folder, log) {
   return { child, input: /** @type {import('node:stream').Writable} */ (input), output: /** @type {import('node:stream').Readable} */ (output) };
 }
 
-/** An own browser; AttachedChromium (attached.js) is another program's. */
+/** An own browser; AttachedChromium (attached.js) is another program's. Made by driven/flow-recorder.js and recording/recorder.js. */
 class Chromium extends Protocol {
-  /** @param {LaunchOptions} options */
+  /**
+   * A browser that has started.
+   * @param {LaunchOptions} options
+   */
   static async launch(options) {
     const browser = new Chromium();
     browser.start(options);

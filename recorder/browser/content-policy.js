@@ -14,6 +14,7 @@ const HOLD_NAME = '__er-hold';
  */
 
 /**
+ * Called by browser/responses/copies.js and instrument/page.js.
  * @param {string} address
  * @returns {Hold}
  */
@@ -88,7 +89,7 @@ function directiveWithMarks(directive, texts, hold) {
 const isOfTypes = (directive) => OF_TYPES.test(directive.trim().split(/\s/)[0].toLowerCase());
 
 /**
- * A header or an attribute with content policies, for the instrumented copy of a page.
+ * A header or an attribute with content policies, for the instrumented copy of a page. Called by browser/responses/copies.js and instrument/page.js.
  * @param {string} policies
  * @param {Texts} texts
  * @param {Hold|null} hold
@@ -98,11 +99,14 @@ function policyWithMarks(policies, texts, hold = null) {
   return policies.split(',').map(withMarks).join(',');
 }
 
-/** @param {string} policies */
+/**
+ * Called by browser/responses/copies.js and instrument/page.js.
+ * @param {string} policies
+ */
 const hasTypes = (policies) => policies.split(/[,;]/).some(isOfTypes);
 
 /**
- * Whether a header demands `integrity` of scripts.
+ * Whether a header demands `integrity` of scripts. Called by browser/responses/copies.js.
  * @param {string} name
  */
 const isOfIntegrity = (name) => OF_INTEGRITY.test(name);

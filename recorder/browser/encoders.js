@@ -1,6 +1,6 @@
 'use strict';
 // Decoders and encoders of texts. Node decodes all encodings of the Encoding Standard, and encodes two of them: the tables of the others are made by decoding
-// each sequence of bytes.
+// each sequence of bytes. text.js reads and writes pages and scripts by these.
 
 /** Windows-1252, which not every Node decodes: the characters from 0x80 on that are others than in Latin-1. */
 const HIGH = '\u20ac\x81\u201a\u0192\u201e\u2026\u2020\u2021\u02c6\u2030\u0160\u2039\u0152\x8d\u017d\x8f'
@@ -43,7 +43,8 @@ function decodeAs(label, bytes, fatal) {
 }
 
 /**
- * Decodes sequences of bytes, each of them alone: no character contains a newline's byte.
+ * Decodes sequences of bytes, each of them alone: no character contains a newline's byte. Of several sequences of a character the first one stays: all are
+ * decoded as it, so the copy has the same text by any.
  * @param {Table} table
  * @param {string} encoding
  * @param {number[][]} sequences

@@ -15,7 +15,7 @@ const CHARSET_IN_CONTENT = /charset[\t\n\f\r ]*=[\t\n\f\r ]*(?:"([^"]*)"|'([^']*
 const PARAMETER = /;[\t\n\r ]*([^;=]*)(?:=(?:"((?:[^"\\]|\\.)*)"?[^;]*|([^;]*)))?/g;
 
 /**
- * The name that the browser has for an encoding, or null for a label that is none.
+ * The name that the browser has for an encoding, or null for a label that is none. Called by text.js.
  * @param {string} label
  */
 function encodingOf(label) {
@@ -115,7 +115,7 @@ function endOfText(text, name, start) {
 }
 
 /**
- * The label of the encoding that a content type or a page names, or null.
+ * The label of the encoding that a content type or a page names, or null. Called by text.js.
  * @param {string} contentType
  * @param {Buffer} bytes
  * @param {boolean} isPage

@@ -1,6 +1,6 @@
 'use strict';
 // A folder as a web site: what a small file server would answer. The browser's requests are answered on their way, so nothing listens. The content type (MIME
-// type) by the ending of a file's name, `index.html` of a folder, status 404.
+// type) by the ending of a file's name, `index.html` of a folder, status 404. What a folder lacks: responses/unserved.js.
 
 const fs = require('node:fs');
 const os = require('node:os');
@@ -92,7 +92,7 @@ class Folder {
   }
 
   /**
-   * The file that is at an address.
+   * The file that is at an address. Called by list/places.js.
    * @param {string} address
    */
   pathOf(address) {
@@ -153,7 +153,8 @@ class Folder {
   }
 
   /**
-   * Only what is inside of the folder after all links, and has no name with a dot at its start, by its own path and by the real one.
+   * Only what is inside of the folder after all links, and has no name with a dot at its start, by its own path and by the real one. Called by
+   * instrument/kept-marks.js.
    * @param {string} file
    * @returns {Answer}
    */
@@ -170,7 +171,7 @@ class Folder {
 /** An address of the folder that ends with a slash, before a query or what a page inside of it is called. */
 const OF_INDEX = /^(http:\/\/localhost\/(?:[^?#\s]*\/)?)(?=$|[?#\s])/;
 /**
- * The address of the file that answers: readers know a page by its file.
+ * The address of the file that answers: readers know a page by its file. Called by trace/named-files.js and trace/names.js.
  * @param {string} address
  */
 const fileAddress = (address) => address.replace(OF_INDEX, '$1index.html');
@@ -208,7 +209,7 @@ const OF_DATA = 'the scripts of a data: address are not instrumented, so its rac
 
 /**
  * What a user's address means: a web address as it is, a file or `file:` address as one of a folder. `credentials` are those of the address,
- * which has none, and `warning` is for who started the recording.
+ * which has none, and `warning` is for who started the recording. Called by page-races.js and recording/recorder.js.
  * @param {string} given
  * @param {string|null} [root]
  * @param {FolderOptions} [options]

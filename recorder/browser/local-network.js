@@ -5,6 +5,7 @@ const { isOfThisMachine } = require('./changing.js');
 
 /**
  * Allows a tab's page the local network, if it is of this machine. The browser does not know that of an instrumented copy, as it would of the page itself.
+ * Called by driven/browser-recorder.js.
  * @param {import('./tab.js').Tab} tab
  * @param {string} address of the page
  */

@@ -26,6 +26,7 @@ function timeout(address) {
 
 const addressesOfMachine = () => Object.values(os.networkInterfaces()).flatMap((some) => some || []).map(({ address, family }) => (family === 'IPv4' ? address : `[${address}]`));
 
+/** Made by changing.js. */
 class LocalServer {
   constructor() {
     this.own = new Set(addressesOfMachine());
@@ -74,6 +75,7 @@ class ServerOfScript {
   }
 
   /**
+   * What the server answers, over redirects in it.
    * @param {string} given
    * @returns {Promise<Answer|null>} null if it names another place, or nothing comes in time
    */
@@ -98,7 +100,8 @@ class ServerOfScript {
 }
 
 /**
- * The text of a script's source map: from the served folder if the script came from it, else from the script's own origin; null if there is none.
+ * The text of a script's source map: from the served folder if the script came from it, else from the script's own origin; null if there is none. Called by
+ * driven/load.js and recording/session.js.
  * @param {string} address of the map
  * @param {string} script its address
  * @param {Folder|null} folder

@@ -18,7 +18,10 @@ const LONGEST_ANSWER = 60000;
 /** Why the browser did not do what it was asked to do. */
 class BrowserFault extends Error {}
 
-/** Events: each event of the protocol under its method's name, and `gone` once the browser has ended. A subclass has its own `write`. */
+/**
+ * Events: each event of the protocol under its method's name, and `gone` once the browser has ended. A subclass has its own `write`. Extended by attached.js
+ * and chromium.js.
+ */
 class Protocol extends EventEmitter {
   constructor() {
     super();

@@ -90,6 +90,7 @@ class Responses {
     ];
   }
 
+  /** Called by recording/session.js. */
   async start() {
     const { tab } = this;
     this.steps.mainFrame = await tab.mainFrame();
@@ -126,13 +127,13 @@ class Responses {
   /** The scripts and the pages of frames that are not in the folder, in words, or ''. */
   get unserved() { return this.files?.unserved.inWords() || ''; }
 
-  /** How many requests have an end that is waited for. */
+  /** How many requests have an end that is waited for. Called by recording/session.js. */
   openRequests() {
     const working = this.log.working();
     return working.size - (this.steering?.countHeld?.(working) || 0);
   }
 
-  /** Counts of what did not come, as lines. */
+  /** Counts of what did not come, as lines. Called by recording/session.js. */
   losses() {
     const refused = [...(this.files?.refused || [])].map(([what, count]) => `${what}, not served: ${count}`);
     const waits = this.log.open.size - this.log.working().size;
@@ -161,7 +162,10 @@ class Responses {
     await this.letPass(event);
   }
 
-  /** @param {Paused} event */
+  /**
+   * Called by driven/browser-recorder.js.
+   * @param {Paused} event
+   */
   async passResponse(event) {
     for (const one of this.chain) if (await one.passResponse?.(event)) return;
     await this.letPass(event);

@@ -51,7 +51,7 @@ class Tab {
   }
 
   /**
-   * Pages of an origin may ask servers of this machine and of its network.
+   * Pages of an origin may ask servers of this machine and of its network. Called by local-network.js.
    * @param {string} origin
    */
   async allowLocalNetwork(origin) {
@@ -60,14 +60,17 @@ class Tab {
     await Promise.all(LOCAL_NETWORK.map((name) => this.browser.send('Browser.setPermission', { permission: { name }, ...grant }).catch(() => {})));
   }
 
-  /** Takes note of the values of the browser's cookies: no file and no output has them. */
+  /** Takes note of the values of the browser's cookies: no file and no output has them. Called by driven/flow-recorder.js. */
   async keepCookies() {
     const answer = this.browser.send('Storage.getCookies', { browserContextId: this.contextId }).catch(() => ({ cookies: [] })); // the browser has gone
     const { cookies } = await within(answer, LONGEST_COOKIES, { cookies: [] });
     cookies.forEach((/** @type {{value: string}} */ { value }) => keepSecret(value, SHORTEST_FOUND));
   }
 
-  /** Closes the tab and forgets what its page stored, unless that is of the profile. */
+  /**
+   * Closes the tab and forgets what its page stored, unless that is of the profile. Called by recording/attached-recorder.js, recording/recorder.js and
+   * replay/found/pictures.js.
+   */
   async close() {
     this.removeListeners();
     if (!this.contextId) {
@@ -102,7 +105,7 @@ class Tab {
   }
 
   /**
-   * Listens to the events of every session.
+   * Listens to the events of every session. Called by recording/attached-recorder.js.
    * @param {string} method
    * @param {Listener} listener
    */
@@ -113,7 +116,7 @@ class Tab {
 
   /**
    * Closes each window that the page opens. It would run in the page's own process, with no recorder in it: its dialogs and
-   * its endless loops would stop the page.
+   * its endless loops would stop the page. Called by recording/session.js.
    * @param {() => void} note
    */
   async closeOpenedWindows(note) {
@@ -127,7 +130,7 @@ class Tab {
   }
 
   /**
-   * The identifier of the page's own frame.
+   * The identifier of the page's own frame. Called by responses.js.
    * @returns {Promise<string>}
    */
   async mainFrame() {
@@ -135,7 +138,7 @@ class Tab {
   }
 
   /**
-   * The value of an expression in a world of its own, in which the page has replaced nothing.
+   * The value of an expression in a world of its own, in which the page has replaced nothing. Called by user.js and replay/found/end-state.js.
    * @param {string} expression
    * @returns {Promise<any>} whatever the page answers
    */
@@ -144,7 +147,7 @@ class Tab {
   }
 
   /**
-   * The number by which the protocol knows an object of that world, or undefined.
+   * The number by which the protocol knows an object of that world, or undefined. Called by user-steps.js.
    * @param {string} expression
    * @returns {Promise<string|undefined>}
    */

@@ -75,7 +75,7 @@ function readUnnamed(bytes) {
 const encodingOfScripts = (label, { charset }) => (label !== null && (charset || isOfTwoBytes(encodingOf(label) || '')) ? label : null);
 
 /**
- * Reads a page or a script.
+ * Reads a page or a script. Called by browser/responses/copies.js and instrument/ahead.js.
  * @param {Buffer} bytes
  * @param {string} contentType
  * @param {boolean} isPage

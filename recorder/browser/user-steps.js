@@ -131,7 +131,10 @@ function isList(/** @type {Where} */ where) {
   return findAll(where)[0]?.localName === 'select';
 }
 
-/** @type {(user: User, step: StepAt) => Promise<Outcome>} */
+/**
+ * Chooses a file in a field for files.
+ * @type {(user: User, step: StepAt) => Promise<Outcome>}
+ */
 async function upload(user, { where, text }) {
   const objectId = await user.tab.objectApart(callOf((/** @type {Where} */ place) => findAll(place)[0], [where])).catch(() => undefined); // the page has gone
   if (!objectId) return NO_TARGET;
@@ -208,6 +211,7 @@ const OTHERS = {
 };
 
 /**
+ * Called by user.js.
  * @param {User} user
  * @param {Step} step
  * @returns {Promise<Outcome>}

@@ -28,7 +28,7 @@ const EARLY_POLL = 10;
  */
 const isSpot = (action) => action.kind === 'spot';
 
-/** Made by the recorder of a page and by that of a flow. */
+/** Made by the recorder of a page (recording/recorder.js) and by that of a flow (driven/flow-recorder.js). */
 class User {
   /** @param {import('./tab.js').Tab} tab */
   constructor(tab) {
@@ -51,7 +51,8 @@ class User {
   }
 
   /**
-   * What a function answers in the page; null if it fails or does not answer in time, as in a loop without an end.
+   * What a function answers in the page; null if it fails or does not answer in time, as in a loop without an end. Called by user-steps.js,
+   * driven/flow-recorder.js and recording/acts.js.
    * @template {unknown[]} P
    * @template R
    * @param {(...parameters: P) => R} found
@@ -66,7 +67,7 @@ class User {
   // ---- the pointer
 
   /**
-   * Moves the pointer.
+   * Moves the pointer. Called by user-steps.js.
    * @param {Point} point
    */
   async moveTo({ x, y }) {
@@ -74,7 +75,7 @@ class User {
   }
 
   /**
-   * Clicks at a point.
+   * Clicks at a point. Called by user-steps.js.
    * @param {Point} point
    * @param {string} [button]
    * @param {number} [times] how often it is clicked in a row
@@ -91,7 +92,7 @@ class User {
   // ---- keys
 
   /**
-   * Presses and releases a key, with others held.
+   * Presses and releases a key, with others held. Called by user-steps.js.
    * @param {import('./input/keyboard.js').Chord} chord
    */
   async press(chord) {
@@ -99,7 +100,7 @@ class User {
   }
 
   /**
-   * Presses or releases one key. Returns false if there is no such key.
+   * Presses or releases one key. Returns false if there is no such key. Called by user-steps.js.
    * @param {string} name
    * @param {boolean} isDown
    */
@@ -112,7 +113,7 @@ class User {
   }
 
   /**
-   * A character without a key comes as from an input method.
+   * A character without a key comes as from an input method. Called by user-steps.js.
    * @param {string} character
    */
   async typeCharacter(character) {
@@ -122,7 +123,7 @@ class User {
   }
 
   /**
-   * Types a text, letter after letter, with pauses.
+   * Types a text, letter after letter, with pauses. Called by user-steps.js.
    * @param {string} text
    */
   async type(text) {
@@ -138,7 +139,7 @@ class User {
   // ---- steps
 
   /**
-   * An action that opens a dialog or stops in the page does not hold the recording up.
+   * An action that opens a dialog or stops in the page does not hold the recording up. Called by user-steps.js.
    * @param {Promise<void>} work
    */
   async guarded(work) {
@@ -146,7 +147,7 @@ class User {
   }
 
   /**
-   * Does one act, and says what came of it.
+   * Does one act, and says what came of it. Called by driven/flow-recorder.js and recording/acts.js.
    * @param {Step|SpotAct} action
    * @returns {Promise<Outcome>}
    */

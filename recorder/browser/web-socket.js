@@ -1,5 +1,6 @@
 'use strict';
-// A client of the WebSocket protocol (RFC 6455), as far as the browser's remote debugging needs it: texts, over a connection to this machine.
+// A client of the WebSocket protocol (RFC 6455), as far as the browser's remote debugging needs it: texts, over a connection to this machine. Sockets of the
+// page: page/tasks/connections.js.
 
 const { createHash, randomBytes } = require('node:crypto');
 const { EventEmitter } = require('node:events');
@@ -81,7 +82,7 @@ class Received {
   }
 }
 
-/** Events: `message` with a text, and `close` with the reason, once. */
+/** Events: `message` with a text, and `close` with the reason, once. Made by attached.js. */
 class WebSocketClient extends EventEmitter {
   /**
    * Opens a connection. Fails with the reason if it can not be opened.
@@ -158,6 +159,7 @@ class WebSocketClient extends EventEmitter {
     while (!this.isShut && (this.isOpen ? this.receiveFrame() : this.receiveHead()));
   }
 
+  /** Reads the server's answer to the upgrade. Returns false, as what follows is read later. */
   receiveHead() {
     const end = this.received.first(this.received.size).indexOf('\r\n\r\n');
     if (end < 0) {
@@ -189,6 +191,7 @@ class WebSocketClient extends EventEmitter {
     return { first, second, head, payload };
   }
 
+  /** Reads a frame, if it is there as a whole. Returns whether there can be another one. */
   receiveFrame() {
     const next = this.nextFrame();
     if (!next) return false;
@@ -218,6 +221,7 @@ class WebSocketClient extends EventEmitter {
   }
 
   /**
+   * Takes what a frame has: a part of a text, or of the protocol itself.
    * @param {number} kind
    * @param {Buffer} payload
    * @param {boolean} isLast

@@ -20,13 +20,13 @@ const WITH_QUERY = /(?:\b[a-z][a-z\d+.-]*:\/\/|(?<![\w/.])\.{0,2}\/)[^\s"'<>\\?#
 const TOKEN = /([?&;#](?:[\w.-]*(?:token|passw(?:or)?d|secret|session|api[_-]?key|jwt|credential|signature)[\w.-]*|(?:\w+[_.-])?(?:key|auth|sig|pwd|pass|sid|code|otp))=)[^&;#]+/gi;
 
 /**
- * A text whose addresses have no tokens: the values of parameters whose names say that they are secret.
+ * A text whose addresses have no tokens: the values of parameters whose names say that they are secret. Called by secrets.js.
  * @param {string} text
  */
 const withoutTokens = (text) => (/[?#]/.test(text) ? text.replace(WITH_QUERY, (address) => address.replace(TOKEN, `$1${HIDDEN}`)) : text);
 
 /**
- * The values of an address's parameters that are secret by their names.
+ * The values of an address's parameters that are secret by their names. Called by options/secrets-of.js.
  * @param {string} address
  */
 const tokensOf = (address) => [...address.matchAll(TOKEN)].map(([all, before]) => decoded(all.slice(before.length)));
@@ -53,7 +53,7 @@ function credentialsOf(address) {
 }
 
 /**
- * The origin of an address of a web server, or null.
+ * The origin of an address of a web server, or null. Called by browser/local-server.js, browser/responses/own-origin.js and driven/flow-recorder.js.
  * @param {string} address
  */
 function originOf(address) {

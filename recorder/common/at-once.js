@@ -2,6 +2,7 @@
 // Work done several pieces at once: with a rank, over a list, and its results. A pool with a limit: at most so many pieces run concurrently, the others wait in
 // a queue.
 
+/** Made by replay/runs.js, as its `slots`. */
 class AtOnce {
   /** @param {number} most how many pieces of work go on at once */
   constructor(most) {
@@ -58,7 +59,8 @@ function eachAtOnce(items, most, work) {
 }
 
 /**
- * Waits until all promises are over, and returns their values. Rejects with the first error that `isLess` is false for, else with the first one.
+ * Waits until all promises are over, and returns their values. Rejects with the first error that `isLess` is false for, else with the first one. Called by
+ * replay-command.js, replay/confirm.js and replay/replay.js.
  * @template T
  * @param {readonly (T|Promise<T>)[]} promises
  * @param {(error: unknown) => boolean} isLess

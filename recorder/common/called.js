@@ -7,7 +7,10 @@ const path = require('node:path');
 /** A package has the program, and nothing that builds one. */
 const isPackage = !fs.existsSync(path.join(__dirname, '..', '..', 'tools', 'build'));
 
-/** @param {string} name */
+/**
+ * Called by replay/reversal.js and view.js.
+ * @param {string} name
+ */
 const called = (name) => (isPackage ? name : `./${name}`);
 
 module.exports = { called };

@@ -1,5 +1,6 @@
 'use strict';
-// ER_DEBUG=protocol,page: prints to standard error what goes to and comes from the browser, and the lines of the page's log.
+// ER_DEBUG=protocol,page: prints to standard error what goes to and comes from the browser (messages of the DevTools protocol), and the lines of the page's
+// log.
 
 const { printError } = require('./output.js');
 
@@ -13,6 +14,7 @@ const wanted = new Set((process.env.ER_DEBUG || '').split(',').map((kind) => kin
 const shortened = (text) => (text.length > LONGEST ? `${text.slice(0, LONGEST)}… (${text.length} characters)` : text);
 
 /**
+ * Called by browser/protocol.js and trace/intake.js.
  * @param {DebugKind} kind
  * @param {string} direction
  * @param {string} text

@@ -17,7 +17,7 @@ function foreignness(address, libraries, find = (pattern, text) => pattern.exec(
 }
 
 /**
- * Whether a file is a library's.
+ * Whether a file is a library's. Called by texts/places.js and texts/source.js.
  * @param {string} address
  * @param {RegExp|null} libraries
  */

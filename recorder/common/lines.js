@@ -7,7 +7,7 @@ const LINE_END = /\r\n|[\n\r]/g;
 const LINE_END_OF_SCRIPT = /\r\n|[\n\r\u2028\u2029]/g;
 
 /**
- * The index of the last entry of a rising list that is not greater than the value.
+ * The index of the last entry of a rising list that is not greater than the value. Called by instrument/edits.js.
  * @param {number[]} list
  * @param {number} value
  */
@@ -55,7 +55,7 @@ class Lines {
 }
 
 /**
- * The lines of a text, as a reader counts them.
+ * The lines of a text, as a reader counts them. Called by races/source-text.js and trace/named-files.js.
  * @param {string} text
  */
 const splitLines = (text) => text.split(LINE_END);

@@ -1,5 +1,6 @@
 'use strict';
-// The ranges of the numbers in a trace. The page's half gets those that it uses (page-script.js).
+// The ranges of the numbers in a trace: of form fields, modules, objects, timeouts of others, and acts. The page's half gets those that it uses
+// (page-script.js).
 
 /** `var N` of a form field, or of an element's object: this plus the number of the element. */
 const FIRST_FIELD = 1000000;
@@ -13,7 +14,10 @@ const FIRST_FOREIGN_TIMEOUT = 3000000000;
 const FIRST_LONE_MODULE = 3500000000;
 /** The distance between the numbers of two acts of a user; the letters of a typed text have the numbers between. */
 const LETTERS_OF_ACT = 1000;
-/** @param {number} index from 0 */
+/**
+ * Called by recording/acts.js and replay/recorded.js.
+ * @param {number} index from 0
+ */
 const numberOfAct = (index) => (index + 1) * LETTERS_OF_ACT;
 
 module.exports = { FIRST_FIELD, FIRST_MODULE, FIRST_OBJECT, FIRST_FOREIGN_TIMEOUT, FIRST_LONE_MODULE, LETTERS_OF_ACT, numberOfAct };

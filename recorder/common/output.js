@@ -20,7 +20,7 @@ const print = (text) => console.log(linesOf(text));
 const STYLE = /(\u001b\[[0-9;]*m)/;
 
 /**
- * Prints a line with colors to standard output.
+ * Prints a line with colors to standard output. Called by list/outputs.js.
  * @param {string} line
  */
 const printStyled = (line) => console.log(line.split(STYLE).map((part, k) => (k % 2 ? part : withoutCommands(part))).join(''));
@@ -32,7 +32,7 @@ const printStyled = (line) => console.log(line.split(STYLE).map((part, k) => (k 
 const printError = (text) => console.error(linesOf(text));
 
 /**
- * Prints a text to standard error, once for each process.
+ * Prints a text to standard error, once for each process. Called by browser/attached.js, browser/chromium.js and recording/recorder.js.
  * @param {string} text
  */
 function printErrorOnce(text) {

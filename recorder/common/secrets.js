@@ -1,6 +1,7 @@
 'use strict';
-// What no file and no output has: the values of cookies and headers, passwords, tokens in addresses, and what --redact names. Each becomes the same word in
-// every run, so that names stay comparable. They are redacted: masked in traces, names, reports and error messages.
+// What no file and no output has: the values of cookies and headers, passwords, tokens in addresses, and what --redact names (which arguments have them:
+// options/secrets-of.js). Each becomes the same word in every run, so that names stay comparable. They are redacted: masked in traces, names, reports and error
+// messages.
 
 const { HIDDEN, withoutCredentials, withoutTokens } = require('./address.js');
 
@@ -21,7 +22,7 @@ let ofValues = null;
 const escaped = (text) => text.replace(/[.*+?^${}()|[\]\\/-]/g, '\\$&');
 
 /**
- * Takes note of a secret, as it is and as addresses and JSON write it.
+ * Takes note of a secret, as it is and as addresses and JSON write it. Called by browser/tab.js, browser/user-steps.js and options/secrets-of.js.
  * @param {string} value
  * @param {number} [shortest]
  */
@@ -32,7 +33,7 @@ function keepSecret(value, shortest = SHORTEST) {
 }
 
 /**
- * Takes note of the value of a header: also of its last word, as of `Bearer WORD`, and of each cookie.
+ * Takes note of the value of a header: also of its last word, as of `Bearer WORD`, and of each cookie. Called by options/secrets-of.js.
  * @param {[name: string, value: string]} header
  */
 function keepHeader([name, value]) {
@@ -41,17 +42,23 @@ function keepHeader([name, value]) {
   if (/^cookie$/i.test(name)) value.split(/;\s*/).forEach((one) => keepSecret(one.slice(one.indexOf('=') + 1)));
 }
 
-/** @param {{user: string, password: string}} credentials */
+/**
+ * Called by options/secrets-of.js.
+ * @param {{user: string, password: string}} credentials
+ */
 function keepCredentials({ user, password }) {
   keepSecret(password);
   keepSecret(Buffer.from(`${user}:${password}`).toString('base64'));
 }
 
-/** @param {RegExp} pattern global */
+/**
+ * Called by recording/options.js.
+ * @param {RegExp} pattern global
+ */
 const keepPattern = (pattern) => { patterns.push(pattern); };
 
 /**
- * A text without secrets.
+ * A text without secrets. Called by page-races.js.
  * @param {string} text
  */
 function redacted(text) {
@@ -60,14 +67,14 @@ function redacted(text) {
 }
 
 /**
- * For `JSON.stringify`: the texts of an object without secrets; its members keep their names.
+ * For `JSON.stringify`: the texts of an object without secrets; its members keep their names. Called by replay-command.js, suite-replays.js and trace/names.js.
  * @param {string} key
  * @param {unknown} value
  */
 const redactedValue = (key, value) => (typeof value === 'string' ? redacted(value) : value);
 
 /**
- * The lines of a trace without secrets: keywords and numbers stay.
+ * The lines of a trace without secrets: keywords and numbers stay. Called by recording/files.js.
  * @param {string} text
  */
 function redactedTrace(text) {
@@ -81,7 +88,7 @@ function redactedTrace(text) {
 }
 
 /**
- * An object without secrets.
+ * An object without secrets. Called by replay-command.js and suite-replays.js.
  * @template T
  * @param {T} given
  * @returns {T}
@@ -89,7 +96,7 @@ function redactedTrace(text) {
 const redactedObject = (given) => JSON.parse(JSON.stringify(given, redactedValue));
 
 /**
- * Leaves secrets out of all that a stream gets.
+ * Leaves secrets out of all that a stream gets. Called by command.js.
  * @param {NodeJS.WriteStream} stream
  */
 function redactStream(stream) {

@@ -27,7 +27,7 @@ function shown(text) {
 }
 
 /**
- * A text in a page.
+ * A text in a page. Called by list/loads-page.js and view/html.js.
  * @param {unknown} text
  */
 const escapeText = (text) => withoutCommands(text).replace(/[&<>"']/g, (one) => `&#${one.charCodeAt(0)};`);

@@ -6,6 +6,7 @@ const { randomBytes } = require('node:crypto');
 const fs = require('node:fs');
 const path = require('node:path');
 
+/** Made by loads.js. */
 class WriteFault extends Error {}
 
 /**
@@ -51,7 +52,7 @@ function writeWhole(file, text) {
 }
 
 /**
- * Fails at once if a file cannot be written later.
+ * Fails at once if a file cannot be written later. Called by record.js.
  * @param {string} file
  */
 function mustTake(file) {

@@ -20,6 +20,7 @@ function placeInText(sources, place) {
 }
 
 /**
+ * Called by load.js.
  * @param {Pick<import('./load.js').Load, 'intake'|'sources'>} load
  * @returns {AskedByLoad[]}
  */
@@ -33,7 +34,7 @@ function askedOf({ intake, sources }) {
 }
 
 /**
- * What was requested, as a log for `Causes`.
+ * What was requested, as a log for `Causes`. Called by suite-loads.js.
  * @param {AskedByLoad[]} asked
  * @returns {import('../replay/causes/run-facts.js').Log}
  */
@@ -46,7 +47,7 @@ function logOf(asked) {
 }
 
 /**
- * Where a place of a text is in the browser's copy; null if the browser has no copy of it.
+ * Where a place of a text is in the browser's copy; null if the browser has no copy of it. Called by load-steering.js.
  * @param {import('../texts/sources.js').Sources} sources
  * @param {string} place
  * @returns {import('../page/types').Spot|null}

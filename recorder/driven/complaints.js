@@ -1,5 +1,5 @@
 'use strict';
-// What the recorder beside a browser complains about: in its log, and on the standard error of the suite.
+// What the recorder beside a browser complains about (warnings): in its log, and on the standard error of the suite.
 
 const fs = require('node:fs');
 const { WriteFault } = require('../common/whole-file.js');
@@ -24,7 +24,7 @@ function write(descriptor, line) {
 }
 
 /**
- * Reports a fault once. The log is standard output.
+ * Reports a fault once. The log is standard output. Called by browser-recorder.js and main.js.
  * @param {string} text
  */
 function complain(text) {
@@ -36,7 +36,7 @@ function complain(text) {
 }
 
 /**
- * A fault in words: with its stack if it is a bug.
+ * A fault in words: with its stack if it is a bug. Called by browser-recorder.js and main.js.
  * @param {unknown} fault
  */
 function faultInWords(fault) {

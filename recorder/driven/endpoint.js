@@ -22,7 +22,10 @@ function hasEnded(pid) {
   }
 }
 
-/** @param {number} pid */
+/**
+ * Called by profile-lock.js, trace-folder.js and suite-run.js.
+ * @param {number} pid
+ */
 function isAlive(pid) {
   try {
     process.kill(pid, 0);
@@ -56,6 +59,7 @@ async function listens(endpoint) {
 }
 
 /**
+ * Called by main.js.
  * @param {{port: number, profile: string, pid: number}} of the browser; port 0 is one that it picks itself
  * @returns {Promise<{host: string, port: number}>}
  */

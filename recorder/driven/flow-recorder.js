@@ -180,6 +180,7 @@ class FlowRecorder {
   }
 
   /**
+   * Does a step at the page, and waits for the page to which it leads.
    * @param {User} user
    * @param {Step} step
    */

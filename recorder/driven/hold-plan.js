@@ -17,7 +17,7 @@ const fs = require('node:fs');
 const IS_LOCAL = /^(localhost|127(\.\d+){3}|\[::1\])$/;
 
 /**
- * An address by which a page is found in another run, in which a server of this machine can have another port.
+ * An address by which a page is found in another run, in which a server of this machine can have another port. Called by browser-recorder.js.
  * @param {string} address
  */
 function addressKey(address) {
@@ -30,7 +30,7 @@ function addressKey(address) {
 }
 
 /**
- * What was written of a page, as of the same page in another run: with the addresses of that run's server.
+ * What was written of a page, as of the same page in another run: with the addresses of that run's server. Called by load-steering.js and suite-replays.js.
  * @template T
  * @param {T} value with texts
  * @param {string} from the address of the page
@@ -43,7 +43,7 @@ function movedTo(value, from, to) {
 }
 
 /**
- * The plan in a file. Throws an error if there is none.
+ * The plan in a file. Throws an error if there is none. Called by main.js.
  * @param {string} file
  * @returns {Plan}
  */

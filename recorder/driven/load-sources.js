@@ -6,7 +6,7 @@ const { COMMON_NAMES } = require('../instrument/ahead.js');
 const { EditedText } = require('../instrument/edits.js');
 const { Sources } = require('../texts/sources.js');
 
-/** What all loads of a browser share. */
+/** What all loads of a browser share. Made by browser-recorder.js, as its `shared`. */
 class SharedSources extends Sources {
   /**
    * @param {'globals'|'objects'} depth

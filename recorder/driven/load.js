@@ -71,7 +71,7 @@ class Load {
   }
 
   /**
-   * Takes lines that the page has sent.
+   * Takes lines that the page has sent. Called by driven-tab.js.
    * @param {string} payload
    */
   take(payload) {
@@ -93,20 +93,20 @@ class Load {
     if (!this.isOver && this.errors.length < MOST_ERRORS) this.errors.push(errorText(details, this.address, this.sources));
   }
 
-  /** Whether it is worth a file: something came of its page. */
+  /** Whether it is worth a file: something came of its page. Called by browser-recorder.js. */
   hasTrace() {
     return this.intake.actions > 0;
   }
 
   /**
-   * Whether it is to be written again: something new came, and the page rests.
+   * Whether it is to be written again: something new came, and the page rests. Called by browser-recorder.js.
    * @param {number} now
    */
   isDue(now) {
     return this.isNew && this.hasTrace() && now >= this.nextWrite && now - this.lastTaken >= SHORTEST_PAUSE / 2;
   }
 
-  /** Writes the trace and the names so far. */
+  /** Writes the trace and the names so far. Called by browser-recorder.js. */
   async write() {
     if (!this.hasTrace()) return;
     this.isNew = false;
@@ -122,7 +122,7 @@ class Load {
   }
 
   /**
-   * The load is over. Nothing is taken after that.
+   * The load is over. Nothing is taken after that. Called by browser-recorder.js.
    * @param {string} why
    */
   end(why) {

@@ -10,7 +10,7 @@ const BEGIN = /^\uFEFF?(?:\s|<!--[^]*?-->)*(?:<!doctype[^>]*>)?(?:\s|<!--[^]*?--
 const START = 'typeof __er === "object" ? __er.removeHold(document.currentScript) : document.currentScript.remove();';
 
 /**
- * The offset in a page at which a script can be put before all others.
+ * The offset in a page at which a script can be put before all others. Called by load-steering.js.
  * @param {string} html
  */
 const startOf = (html) => (BEGIN.exec(html)?.[0] || '').length;

@@ -16,18 +16,18 @@ class Pause {
     this.isOver = false;
   }
 
-  /** A request or a response came. */
+  /** A request or a response came. Called by browser-recorder.js. */
   note() {
     this.last = Date.now();
   }
 
-  /** From now on, nothing is waited for: the browser has ended. */
+  /** From now on, nothing is waited for: the browser has ended. Called by browser-recorder.js. */
   end() {
     this.isOver = true;
   }
 
   /**
-   * Waits for a pause. After work that kept this process busy, what came meanwhile is heard only between two looks.
+   * Waits for a pause. After work that kept this process busy, what came meanwhile is heard only between two looks. Called by browser-recorder.js.
    * @param {number} since when the load ended, or when it is to be written
    */
   async wait(since) {

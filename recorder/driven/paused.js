@@ -6,7 +6,7 @@ const { Tab } = require('../browser/tab.js');
 /** @typedef {{requestId: string}} PausedEvent */
 
 /**
- * Whether a response becomes a page: no step to another address, no file to be saved.
+ * Whether a response becomes a page: no step to another address, no file to be saved. Called by browser-recorder.js.
  * @param {{[name: string]: any}} event as the protocol has it
  */
 function isPage({ responseStatusCode: status, responseHeaders = [] }) {
@@ -16,7 +16,7 @@ function isPage({ responseStatusCode: status, responseHeaders = [] }) {
   return isShown && /html|xml/i.test(value('content-type')) && !/^attachment/i.test(value('content-disposition'));
 }
 
-/** For `Responses` it is the tab of a page load, of which that needs no more than to send answers. */
+/** For `Responses` it is the tab of a page load, of which that needs no more than to send answers. Made by browser-recorder.js, as its `paused`. */
 class Paused extends Tab {
   /** @param {import('../browser/protocol.js').Protocol} browser */
   constructor(browser) {
@@ -34,7 +34,7 @@ class Paused extends Tab {
   }
 
   /**
-   * A request or a response is paused in a session.
+   * A request or a response is paused in a session. Called by browser-recorder.js.
    * @param {PausedEvent} event
    * @param {string|undefined} sessionId
    */
@@ -62,7 +62,7 @@ class Paused extends Tab {
   }
 
   /**
-   * Lets a request or a response pass as it is.
+   * Lets a request or a response pass as it is. Called by browser-recorder.js.
    * @param {PausedEvent} event
    * @param {object} more parameters
    */

@@ -13,7 +13,7 @@ const LONGEST_SLUG = 60;
 const LONGEST_WRITING = 60000;
 
 /**
- * An address as a part of a file's name.
+ * An address as a part of a file's name. Called by many-pages.js.
  * @param {string} address
  */
 function slugOf(address) {
@@ -58,7 +58,8 @@ class TraceFolder {
 const writersOf = (/** @type {string} */ folder) => fs.readdirSync(folder).map((name) => Number(LOCK.exec(name)?.[1] || 0)).filter((pid) => pid && isAlive(pid));
 
 /**
- * Waits until no recorder writes into a folder any more. Returns false if that took longer than `longest` milliseconds.
+ * Waits until no recorder writes into a folder any more. Returns false if that took longer than `longest` milliseconds. Called by index-task.js, suite-run.js
+ * and suite.js.
  * @param {string} folder
  * @param {number} longest
  */

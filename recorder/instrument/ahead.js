@@ -75,6 +75,7 @@ function isInstrumented(sources, { address, type, body, ofPage }) {
 }
 
 /**
+ * Called by recording/recorder.js.
  * @param {Sources} sources
  * @param {Place} place
  * @param {string} address the page's address

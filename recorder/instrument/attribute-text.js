@@ -1,5 +1,5 @@
 'use strict';
-// Writes texts into a page so that the browser reads them as they are: into attributes, and into scripts that are markup.
+// Writes texts into a page so that the browser reads them as they are: into attributes, and into scripts that are markup. Quotes and `&` are escaped.
 
 const NAMED = new Map([['&', '&amp;'], ['"', '&quot;'], ['<', '&lt;']]);
 
@@ -8,7 +8,7 @@ const referenceTo = (character) => NAMED.get(character) || `&#${character.codePo
 
 /**
  * An attribute's value with its quotation marks. A carriage return would be read as a newline; a character that the page does not contain yet may be missing
- * from its encoding.
+ * from its encoding. Called by page.js.
  * @param {string} text
  * @param {string} original the attribute as it is in the page
  */
@@ -18,7 +18,7 @@ function encodeValue(text, original) {
 }
 
 /**
- * A piece of text between tags.
+ * A piece of text between tags. Called by svg-text.js.
  * @param {string} text
  */
 const encodeText = (text) => text.replace(/[&<\r]|[^\x00-\x7f]/gu, referenceTo);

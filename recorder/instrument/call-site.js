@@ -170,6 +170,7 @@ function readCallSite(message, text, offset) {
 }
 
 /**
+ * Called by recording/error-text.js.
  * @param {string} message what the browser reported of the copy
  * @param {{text: string, offset: number, known?: Map<string, string|null>}} place where it says that the call is, in the page's own text: at `new`, at a
  *   template, at the name of a method or a function, else at the bracket; and what was returned for this text before

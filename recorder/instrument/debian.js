@@ -21,13 +21,19 @@ function addPackages() {
   else process.env.NODE_PATH = before;
 }
 
-/** @returns {typeof import('/usr/share/nodejs/parse5')} */
+/**
+ * Called by tags.js.
+ * @returns {typeof import('/usr/share/nodejs/parse5')}
+ */
 function loadParse5() {
   if (!loader.globalPaths.includes(PACKAGES)) addPackages();
   return require('/usr/share/nodejs/parse5');
 }
 
-/** @returns {typeof import('/usr/share/nodejs/entities/lib/decode')} */
+/**
+ * Called by svg-text.js.
+ * @returns {typeof import('/usr/share/nodejs/entities/lib/decode')}
+ */
 const loadEntities = () => require('/usr/share/nodejs/entities/lib/decode');
 
 module.exports = { loadParse5, loadEntities };

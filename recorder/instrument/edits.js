@@ -6,7 +6,10 @@ const { Lines, lastNotGreater, LINE_END, LINE_END_OF_SCRIPT } = require('../comm
 
 /** @typedef {import('./syntax/types').Edit} Edit */
 
-/** An edited text. Edits are given by their place in the original; those of one place keep the order in which they were given. */
+/**
+ * An edited text. Edits are given by their place in the original; those of one place keep the order in which they were given. Made by driven/load-sources.js,
+ * page.js and texts/source.js.
+ */
 class EditedText {
   /**
    * @param {string} original

@@ -19,7 +19,7 @@ function isObject(text) {
 }
 
 /**
- * The edits that empty the `integrity` of an import map.
+ * The edits that empty the `integrity` of an import map. Called by page.js.
  * @param {string} text
  * @returns {{start: number, end: number, insert: string}[]}
  */

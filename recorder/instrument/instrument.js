@@ -162,7 +162,7 @@ function editsOf(code, options, program) {
 }
 
 /**
- * The edits that mark a script, a module or the text of a handler attribute; or why it stays as it is.
+ * The edits that mark a script, a module or the text of a handler attribute; or why it stays as it is. Called by kept-marks.js and warm-up.js.
  * @param {string} code
  * @param {Options} options
  * @returns {{edits: import('./syntax/types').Edit[], fault?: undefined} | {edits?: undefined, fault: import('./syntax/types').Fault}}

@@ -146,7 +146,7 @@ class KeptMarks {
   }
 
   /**
-   * The same as `instrument` of instrument.js.
+   * The same as `instrument` of instrument.js. Called by page.js and texts/sources.js.
    * @param {string} code
    * @param {Options} options
    * @returns {Result}

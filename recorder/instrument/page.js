@@ -55,7 +55,7 @@ const LONGEST_SOURCE = 200;
 const typeOf = (tag) => scriptType(attributeOf(tag, 'type')?.value ?? null, tag.namespace === SVG ? null : attributeOf(tag, 'language')?.value ?? null);
 
 /**
- * 'script', 'module', or null for a data block.
+ * 'script', 'module', or null for a data block. Called by ahead.js.
  * @param {Tag} tag
  */
 function kindOfScript(tag) {
@@ -64,7 +64,7 @@ function kindOfScript(tag) {
 }
 
 /**
- * The attribute that names the file of a script.
+ * The attribute that names the file of a script. Called by ahead.js.
  * @param {Tag} tag
  */
 const sourceOf = (tag) => (tag.namespace === SVG ? attributeOf(tag, 'href') || attributeOf(tag, 'xlink:href') : attributeOf(tag, 'src'));

@@ -21,7 +21,7 @@ function commonEnd(a, b) {
   return length;
 }
 
-/** The code between two tags in SVG, and the way back from its places to those of the page. */
+/** The code between two tags in SVG, and the way back from its places to those of the page. Made by page.js. */
 class SvgText {
   /**
    * @param {string} html
@@ -55,6 +55,7 @@ class SvgText {
   }
 
   /**
+   * Adds markup: where a character reference is decoded, the text is longer or shorter than the page.
    * @param {string} piece
    * @param {number} inPage
    */
@@ -100,7 +101,7 @@ class SvgText {
 }
 
 /**
- * Whether an edit can be made in the page: what is inserted into a CDATA section cannot contain its end.
+ * Whether an edit can be made in the page: what is inserted into a CDATA section cannot contain its end. Called by page.js.
  * @param {SvgText} text
  * @param {{start: number, insert: string}} edit
  */

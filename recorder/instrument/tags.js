@@ -215,6 +215,7 @@ function readTags(html) {
 }
 
 /**
+ * Called by page.js.
  * @param {Tag} tag
  * @param {string} name
  */

@@ -22,7 +22,7 @@ const PAGE = '<div class="a" id=b><p>Some text &amp; <a href="c.html" title=\'d\
 /** @type {import('./syntax/types').Options} */
 const OPTIONS = { kind: 'script', builtins: new Set(['window', 'document']), site: () => 0 };
 
-/** Marks code that no page has: a readable script, and a minified one. */
+/** Marks code that no page has: a readable script, and a minified one. Called by recording/recorder.js. */
 function warmUp() {
   const readable = fs.readFileSync(require.resolve('/usr/share/nodejs/acorn'), 'utf8');
   for (let k = 0; k < TIMES_READABLE; k++) instrument(readable, OPTIONS);

@@ -39,6 +39,7 @@ const REQUESTED = new Set(['asked for by', 'registered by', 'called by', 'goes o
  */
 const passed = (facts) => (facts?.ready ? { place: facts.ready } : facts);
 
+/** Made by sides.js, as its `callbacks`. */
 class Callbacks {
   /**
    * @param {import('../races/words.js').Words} words
@@ -53,7 +54,7 @@ class Callbacks {
   }
 
   /**
-   * What runs in an action, and where it was requested, in words.
+   * What runs in an action, and where it was requested, in words. Called by sides.js.
    * @param {number} number @returns {string}
    */
   of(number) {
@@ -107,7 +108,7 @@ class Callbacks {
   }
 
   /**
-   * The place in the page's own code from which an action comes: where it was requested, or what requested it, and so on.
+   * The place in the page's own code from which an action comes: where it was requested, or what requested it, and so on. Called by sides.js.
    * @param {number} number
    * @returns {Place|null}
    */
@@ -162,7 +163,7 @@ class Callbacks {
   }
 
   /**
-   * The callback of an interval, or of what counts as one.
+   * The callback of an interval, or of what counts as one. Called by replay/causes/causes.js.
    * @param {string} number @param {number} action
    */
   tick(number, action) {
@@ -173,7 +174,7 @@ class Callbacks {
   }
 
   /**
-   * The last part of the address that a request is for; the whole path, where two sides are told apart.
+   * The last part of the address that a request is for; the whole path, where two sides are told apart. Called by sides.js.
    * @param {string} number
    */
   request(number) {
@@ -228,7 +229,7 @@ class Callbacks {
   }
 
   /**
-   * The subjects of a sentence about two sides, which are different. The second is the first in the sentence.
+   * The subjects of a sentence about two sides, which are different. The second is the first in the sentence. Called by sides.js.
    * @param {number} one an action @param {number} other an action
    * @returns {[string, string]}
    */

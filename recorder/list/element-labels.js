@@ -1,6 +1,6 @@
 'use strict';
-// What the tag of an element in the page's source says to a reader of the list: what distinguishes an element without an id from others of its kind (its text
-// or its classes), and its attributes.
+// What the tag of an element in the page's source says to a reader of the list: what distinguishes an element without an id (an unnamed `div`) from others of
+// its kind (its text or its classes), and its attributes.
 
 const { shown } = require('../common/shown.js');
 
@@ -18,7 +18,7 @@ const ATTRIBUTES = { class: new RegExp(`\\sclass${VALUE}`, 'i'), href: new RegEx
 const CHARACTERS = { amp: '&', lt: '<', gt: '>', quot: '"', '#39': "'", nbsp: ' ' };
 
 /**
- * The label of an element, as ` "Buy now"` or `.menu.open`; '' if its tag says nothing.
+ * The label of an element, as ` "Buy now"` or `.menu.open`; '' if its tag says nothing. Called by element-words.js.
  * @param {string} source of the page, from the tag on
  * @param {string} tag
  */

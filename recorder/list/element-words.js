@@ -12,6 +12,7 @@ const LEADS = /^(?!#?$|#top$|javascript:)./i;
 /** Elements that a page has once. */
 const ONCE = new Set(['html', 'head', 'body', 'HTMLDocument', 'Window']);
 
+/** Made by sides.js, as its `elements`. */
 class ElementWords {
   /**
    * @param {import('../races/words.js').Words} words

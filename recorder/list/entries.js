@@ -59,7 +59,7 @@ class Entries {
   }
 
   /**
-   * The sides of the races of a run.
+   * The sides of the races of a run. Called by loads-run.js.
    * @param {number} run
    */
   sidesOf(run) {
@@ -70,7 +70,7 @@ class Entries {
   }
 
   /**
-   * What the list says of a problem, by its worst race.
+   * What the list says of a problem, by its worst race. Called by loads-run.js.
    * @param {Listed} line
    */
   toldOf({ run, first, worst, look }) {
@@ -78,7 +78,7 @@ class Entries {
   }
 
   /**
-   * The place of a problem's first line.
+   * The place of a problem's first line. Called by listing.js.
    * @param {Listed} line
    */
   placeOf(line) {
@@ -86,7 +86,7 @@ class Entries {
   }
 
   /**
-   * The first line of a problem.
+   * The first line of a problem. Called by listing.js.
    * @param {Listed} line
    */
   summaryOf(line) {
@@ -94,7 +94,7 @@ class Entries {
   }
 
   /**
-   * A usual change for a problem.
+   * A usual change for a problem. Called by listing.js.
    * @param {Listed} line
    */
   fixOf(line) {
@@ -114,7 +114,12 @@ class Entries {
     return callOf(words, report.races[worst ?? first]);
   }
 
-  /** @param {Listed} line @param {Listed[]} others @returns {Entry} */
+  /**
+   * Called by listing.js.
+   * @param {Listed} line
+   * @param {Listed[]} others
+   * @returns {Entry}
+   */
   of(line, others) {
     const { sentence, place, sides } = this.toldOf(line);
     const { look, name } = line;
@@ -128,7 +133,7 @@ class Entries {
   }
 
   /**
-   * What takes each side's place in the other races of a problem.
+   * What takes each side's place in the other races of a problem. Called by loads-run.js.
    * @param {Listed} line
    */
   alsoOf({ run, first, races, sites: [one, two], look }) {

@@ -1,5 +1,6 @@
 'use strict';
-// An entry of the list in lines, as compilers print what they find: the place first, then what goes wrong; the two sides; what else is known of it.
+// An entry of the list in lines, a long one wrapped, as compilers print what they find: the place first, then what goes wrong; the two sides; what else is
+// known of it. Used by outputs.js.
 
 const { withoutCommands } = require('../common/shown.js');
 

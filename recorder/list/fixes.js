@@ -48,7 +48,7 @@ const FIXES = {
 };
 
 /**
- * The change for a problem.
+ * The change for a problem. Called by sides.js.
  * @param {LookKey} look @param {Use} use
  */
 function fixOf(look, { kind, isOfUser, modes = 'ww', tag = '', isByLibrary = false, isInLibraries = false }) {

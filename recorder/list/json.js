@@ -72,7 +72,7 @@ function replayOf(listing, problem) {
 }
 
 /**
- * The one object that `--json` prints.
+ * The one object that `--json` prints. Called by index-task.js and outputs.js.
  * @param {Listing} listing @param {ListFacts} facts
  */
 function plainListing(listing, { page, status, files, folder, loads }) {

@@ -1,6 +1,7 @@
 'use strict';
-// The file of known problems (races.known, --known) and its format: in each line a name and its words. A malformed line is a KnownFault; names that no problem
-// has any more are It is a baseline: what it lists is not new. `notSeen` (stale). Lines that begin with # are comments and keep their position.
+// The file of known problems (races.known, --known) and its format: in each line a name and its words. It is a baseline: what it lists is not new. A malformed
+// line is a KnownFault; names that no problem has any more (they did not occur) are `notSeen` (stale). Lines that begin with # are comments and keep their
+// position.
 
 const fs = require('node:fs');
 
@@ -14,6 +15,7 @@ const OLD_HEAD = '# Races that are known (./er_page --known, docs/viewing.md): a
  * @typedef {{name: string, words: string, comments: string[]}} Entry
  */
 
+/** Why a file of known problems cannot be used: its status is in command.js. */
 class KnownFault extends Error {}
 
 /** Made by each command that prints a list (`Known.of`). */
@@ -70,7 +72,7 @@ class Known {
   }
 
   /**
-   * Whether a problem is known, by its own name or by those of all its races.
+   * Whether a problem is known, by its own name or by those of all its races. Called by listing.js.
    * @param {Named} problem
    */
   hasProblem({ name, seen }) {
@@ -78,7 +80,7 @@ class Known {
   }
 
   /**
-   * The lines whose problem or race did not come.
+   * The lines whose problem or race did not come. Called by listing.js.
    * @param {Named[]} problems
    */
   notSeen(problems) {
@@ -87,7 +89,7 @@ class Known {
   }
 
   /**
-   * The text of the file with some more problems. Its lines stay as they are, and each new line is added where it belongs by its words.
+   * The text of the file with some more problems. Its lines stay as they are, and each new line is added where it belongs by its words. Called by outputs.js.
    * @param {(Named & {words: string})[]} problems
    */
   textWith(problems) {

@@ -42,7 +42,7 @@ function orderOf([first, second]) {
 /** @param {string[]} sides those of a race, which has two */
 const inOrder = ([first, second]) => (first <= second ? [first, second] : [second, first]);
 
-/** Made for each trace in a list. */
+/** Made for each trace in a list, by problems.js; also by replay-race.js and suite-loads.js, which find a race again. */
 class LastingNames extends Keys {
   /** @param {string} text a trace @param {Names} names */
   constructor(text, names) {

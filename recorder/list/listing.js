@@ -1,5 +1,6 @@
 'use strict';
-// The list over one or more recordings of a page: each problem once, in how many recordings it was seen, whether in both orders, and whether it is known.
+// The list over one or more recordings of a page: each problem once, in how many recordings it was seen (a flaky one: in 2 of 3 runs), whether in both orders,
+// and whether it is known.
 
 const { Entries } = require('./entries.js');
 const { APART } = require('./patterns/table.js');
@@ -49,7 +50,7 @@ class Listing {
   }
 
   /**
-   * What came of the races of a run in the other order: the members of OUT.replay.json.
+   * What came of the races of a run in the other order: the members of OUT.replay.json. Called by replay-command.js and suite-replays.js.
    * @param {number} run @param {Verdict[]} races
    */
   setVerdicts(run, races) {
@@ -59,7 +60,7 @@ class Listing {
   }
 
   /**
-   * The rank of a problem: a lower one comes first.
+   * The rank of a problem: a lower one comes first. Called by json.js.
    * @param {Listed} problem
    */
   rankOf(problem) {
@@ -84,7 +85,7 @@ class Listing {
   }
 
   /**
-   * The verdict of the first race of a problem that was run again.
+   * The verdict of the first race of a problem that was run again. Called by entries.js, json.js and sarif.js.
    * @param {{name: string}} problem @returns {Verdict|undefined}
    */
   verdictOf({ name }) {
@@ -96,7 +97,7 @@ class Listing {
   }
 
   /**
-   * A problem of a run, if that has it.
+   * A problem of a run, if that has it. Called by json.js.
    * @param {number} run @param {string} name
    */
   problemOf(run, name) {
@@ -153,13 +154,13 @@ class Listing {
     return covered;
   }
 
-  /** The lines of problems that are not known. */
+  /** The lines of problems that are not known. Called by loads-page.js. */
   fresh() {
     return this.lines.filter(({ isKnown }) => !isKnown);
   }
 
   /**
-   * Whether a problem counts if it is not known: that a user may do two things in another order is no fault of the page.
+   * Whether a problem counts if it is not known: that a user may do two things in another order is no fault of the page. Called by outputs.js.
    * @param {Problem} problem
    */
   counts({ look }) {
@@ -204,13 +205,13 @@ class Listing {
     return this.lines.filter(({ isKnown }) => isKnown);
   }
 
-  /** The known problems that no run has. */
+  /** The known problems that no run has. Called by json.js and outputs.js. */
   notSeen() {
     return this.known ? this.known.notSeen(this.problems) : [];
   }
 
   /**
-   * The name of the problem in whose line a race is: its own, or the one that covers it. So each race is in one line.
+   * The name of the problem in whose line a race is: its own, or the one that covers it. So each race is in one line. Called by view/choice.js.
    * @param {number} run @param {number} race its index
    */
   lineOfRace(run, race) {
@@ -220,7 +221,7 @@ class Listing {
   }
 
   /**
-   * How many races are in the line of a problem: its own, and those that it covers of problems without a line.
+   * How many races are in the line of a problem: its own, and those that it covers of problems without a line. Called by entries.js.
    * @param {Listed} problem
    */
   size({ name, run }) {
@@ -230,7 +231,8 @@ class Listing {
   }
 
   /**
-   * All lines for the view, in the order of the list, what is known last: the section of each, and its problems, first the one whose words it has.
+   * All lines for the view, in the order of the list, what is known last: the section of each, and its problems, first the one whose words it has. Called by
+   * view/choice.js, view/lines.js and view/model.js.
    * @returns {{part: string, isKnown: boolean, problems: Listed[]}[]}
    */
   inOrder() {
@@ -239,7 +241,7 @@ class Listing {
   }
 
   /**
-   * In how many runs, and in which orders; if the first run lacks it, where it is shown.
+   * In how many runs, and in which orders; if the first run lacks it, where it is shown. Called by entries.js, loads-junit.js and sarif.js.
    * @param {Listed} problem
    */
   seenInWords({ runs, orders }) {
@@ -250,7 +252,7 @@ class Listing {
   }
 
   /**
-   * What is said of a problem: a sentence with its place, the two sides, and more.
+   * What is said of a problem: a sentence with its place, the two sides, and more. Called by outputs.js.
    * @param {Listed} line @param {Listed[]} [others]
    */
   entryOf(line, others = []) {
@@ -258,7 +260,7 @@ class Listing {
   }
 
   /**
-   * The place at which the list has the problem of a race.
+   * The place at which the list has the problem of a race. Called by replay-command.js.
    * @param {number} run @param {number} race its index
    */
   placeOfRace(run, race) {
@@ -276,7 +278,7 @@ class Listing {
   }
 
   /**
-   * A usual change for a problem.
+   * A usual change for a problem. Called by json.js, loads-page.js and view/choice.js.
    * @param {Listed} line
    */
   fixOf(line) {

@@ -51,7 +51,7 @@ function suiteOf(name, cases) {
 }
 
 /**
- * A report without a test case is an error of some readers, so a list without a problem is one that passes.
+ * A report without a test case is an error of some readers, so a list without a problem is one that passes. Called by loads.js.
  * @param {LoadsListing} listing
  */
 function junitOf(listing) {

@@ -120,7 +120,7 @@ function shownOf(problems, race, copy) {
   return shown;
 }
 
-/** Makes the runs of a list: what several loads have in common is stored once. */
+/** Makes the runs of a list: what several loads have in common is stored once. Made by load-judge.js and loads.js. */
 class LoadRuns {
   /** @param {boolean} isWhole whether each race of each load is shown, as in JSON; otherwise only the first race of each problem */
   constructor(isWhole) {

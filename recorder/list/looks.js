@@ -1,7 +1,8 @@
 'use strict';
 // Which pattern a race has (patterns/accesses.js, all: patterns/table.js), from the trace and its names alone: it is a reader's first hint, and decides
-// nothing. As a late handler, a use before the definition (no lazy initialization), overwriting replies (a late response to an older request), a counter, a
-// flag.
+// nothing. As a late handler (a button is clicked too early), a use before the definition (no lazy initialization), overwriting replies (a late response to an
+// older request), a counter, a flag, writes of the same value (equal: patterns/accesses.js; how harmless: its section in patterns/table.js, its severity in
+// rank.js). The usual change: fixes.js.
 
 const { FIRST_FIELD, FIRST_MODULE } = require('../common/numbers.js');
 const { isOfTree } = require('../races/spelled-locations.js');
@@ -83,7 +84,7 @@ class Looks {
   }
 
   /**
-   * The pattern of a race: the first that fits.
+   * The pattern of a race: the first that fits. Called by problems.js.
    * @param {Race} race @returns {Look}
    */
   look(race) {

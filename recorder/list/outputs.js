@@ -1,5 +1,5 @@
 'use strict';
-// The outputs of the list: lines for a reader, one object for other tools, SARIF, and the file of known races.
+// The outputs of the list: lines for a reader, one object for other tools, SARIF, and the file of known races. Used by loads.js and page-races.js.
 
 const { printStyled } = require('../common/output.js');
 const { jsonText } = require('../common/shown.js');

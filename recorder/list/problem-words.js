@@ -68,7 +68,7 @@ class ProblemWords {
 }
 
 /**
- * The first few of a list; the words with which all start and end are printed once.
+ * The first few of a list; the words with which all start and end are printed once. Called by problems.js.
  * @param {string[]} texts
  */
 function listed(texts) {

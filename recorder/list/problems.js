@@ -1,6 +1,6 @@
 'use strict';
 // Problems of one recording: the races of one key (`nameRace` in lasting.js: location and both places) are one. Each race is in exactly one problem. Duplicates
-// are merged (deduplicated) into one entry.
+// are merged (deduplicated) into one entry. Its pattern, as `same value`: looks.js.
 
 const { isOfTree } = require('../races/spelled-locations.js');
 const { LastingNames } = require('./lasting.js');
@@ -168,7 +168,7 @@ class Problems {
 
   /**
    * Whether each side of a race writes all of a thing: an element's content, a set of keys or a number of items keeps a part of what was there, and two
-   * elements can have one id.
+   * elements can have one id. Called by sides.js.
    * @param {Race} race
    */
   isReplaced({ location, modes, lines, actions }) {
@@ -212,7 +212,10 @@ function tellApart(problems, line) {
   }
 }
 
-/** @param {{groups: number[], isTold?: boolean}} problem */
+/**
+ * Called by listing.js.
+ * @param {{groups: number[], isTold?: boolean}} problem
+ */
 const hasLine = ({ groups, isTold }) => groups.length > 0 || !!isTold;
 
 module.exports = { Problems, listed, hasLine };

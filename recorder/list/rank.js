@@ -1,6 +1,6 @@
 'use strict';
 // The order of the list: by what a problem does to the user of the page. What a replay found comes first, then the pattern with its measured share of harm. It
-// is the severity of a race: harmful ones come first.
+// is the severity of a race: harmful ones come first. Used by listing.js.
 
 const { APART, HARMLESS, IDLE, SAME } = require('./patterns/table.js');
 

@@ -1,6 +1,6 @@
 'use strict';
-// The list as SARIF 2.1.0, the format in which code hosts and editors take what a tool found: a rule for each pattern, a result for each problem, with its
-// name as the fingerprint.
+// The list as SARIF 2.1.0, the format in which code hosts (GitHub code scanning) and editors take what a tool found: a rule for each pattern, a result for each
+// problem, with its name as the fingerprint.
 
 const fs = require('node:fs');
 const path = require('node:path');
@@ -128,6 +128,7 @@ function invocationsOf({ runs }) {
 }
 
 /**
+ * Called by outputs.js.
  * @param {Listing} listing
  * @param {SarifFacts} facts
  */

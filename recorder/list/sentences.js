@@ -52,7 +52,7 @@ const SENTENCES = {
 };
 
 /**
- * The sentence of a pattern, without its place.
+ * The sentence of a pattern, without its place. Called by sides.js.
  * @param {LookKey} look @param {Facts} facts
  */
 const sentenceOf = (look, facts) => capital(SENTENCES[look](facts));

@@ -139,7 +139,7 @@ class Sides {
   }
 
   /**
-   * What distinguishes a side from those of other races: the target of an event, else the callback.
+   * What distinguishes a side from those of other races: the target of an event, else the callback. Called by entries.js.
    * @param {Race} race
    * @param {number} k
    */
@@ -183,7 +183,7 @@ class Sides {
   }
 
   /**
-   * The side whose place the page's author would change: the registration of a handler, the write over what a user did, the early use.
+   * The side whose place the page's author would change: the registration of a handler, the write over what a user did, the early use. Called by entries.js.
    * @param {Race} race @param {LookKey} look
    */
   leading({ modes, actions }, look) {
@@ -270,7 +270,7 @@ class Sides {
 const isAlike = ([one, two]) => `${one.what} ${one.place} ${one.actor}` === `${two.what} ${two.place} ${two.actor}`;
 
 /**
- * The sentence with its place.
+ * The sentence with its place. Called by entries.js.
  * @param {{sentence: string, place: string}} told
  */
 const summaryOf = ({ sentence, place }) => `${sentence} at ${place}`;

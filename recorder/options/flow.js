@@ -135,12 +135,13 @@ function addStep(flow, given, from) {
 }
 
 /**
- * Whether a step leads to another page, or to another address of the page.
+ * Whether a step leads to another page, or to another address of the page. Called by driven/flow-recorder.js.
  * @param {Pick<Step, 'given'>} step
  */
 const leadsOn = ({ given }) => !!given && Array.isArray(given.assertedEvents) && given.assertedEvents.some((one) => one?.type === 'navigation');
 
 /**
+ * Called by recording/options.js.
  * @param {string} name of the option
  * @param {string} file
  */
@@ -155,7 +156,7 @@ function readFlow(name, file) {
 }
 
 /**
- * A step that a recording has saved.
+ * A step that a recording has saved. Called by recording/options.js.
  * @param {string} name of the option
  * @param {string} given
  */

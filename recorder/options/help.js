@@ -1,6 +1,6 @@
 'use strict';
-// What the commands print with --help. The documents have the same options (test/options.test.js). tools/manual.py makes the manual pages of these texts:
-// an entry starts with two spaces, its further lines with three or more. The statuses are those of common/status.js.
+// What the commands print with --help: usage, options, exit statuses. The documents have the same options (test/options.test.js). tools/manual.py makes the
+// manual pages of these texts: an entry starts with two spaces, its further lines with three or more. The statuses are those of common/status.js.
 
 const { ER_BROWSER } = require('./help-browser.js');
 
@@ -290,7 +290,7 @@ Documentation: docs/using.md, docs/explain.md`,
 };
 
 /**
- * The lines of a help text that say how the command is called.
+ * The lines of a help text that say how the command is called. Called by command.js.
  * @param {keyof typeof HELP} command
  */
 const usageOf = (command) => HELP[command].slice(0, HELP[command].indexOf('\n\n'));

@@ -35,6 +35,7 @@ function valueOf({ rawName, value, inlineValue }, { isFlag }) {
 }
 
 /**
+ * Called by recording/options.js and view.js.
  * @template T
  * @param {string[]} args
  * @param {OptionTable<T>} table

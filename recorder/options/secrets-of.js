@@ -18,7 +18,7 @@ const { keepSecret, keepHeader, keepCredentials, SHORTEST_FOUND } = require('../
 const PASSWORD_FIELD = /passw|pwd|passcode|secret|token|otp/i;
 
 /**
- * Takes note of what no file and no output may have.
+ * Takes note of what no file and no output may have. Called by recording/options.js.
  * @param {Given} options
  * @param {string[]} addresses
  */

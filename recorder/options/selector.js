@@ -39,6 +39,7 @@ function textPart(value) {
 }
 
 /**
+ * The selector of a role and an accessible name, as `button[name="Buy"]`.
  * @param {string} value
  * @returns {Part}
  */
@@ -90,7 +91,7 @@ function partsOf(said) {
 }
 
 /**
- * Where an element is, as --do names it. Throws why the selector is none.
+ * Where an element is, as --do names it. Throws why the selector is none. Called by step.js.
  * @param {string} said
  * @returns {Where}
  */
@@ -117,7 +118,7 @@ function recordedPart(said) {
 }
 
 /**
- * The alternatives of a step. One of several parts leads through shadow roots. Throws why they are none.
+ * The alternatives of a step. One of several parts leads through shadow roots. Throws why they are none. Called by flow.js.
  * @param {unknown} given
  * @param {unknown} frame
  * @returns {Where}

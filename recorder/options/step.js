@@ -61,6 +61,7 @@ function placeOf(name, kind, target) {
 }
 
 /**
+ * Called by recording/options.js.
  * @param {string} name of the option
  * @param {string} said
  * @returns {Step}

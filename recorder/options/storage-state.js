@@ -55,6 +55,7 @@ function parseStorageState(name, text) {
 }
 
 /**
+ * Called by recording/options.js.
  * @param {string} name of the option
  * @param {string} file
  */

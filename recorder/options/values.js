@@ -1,6 +1,6 @@
 'use strict';
 // The values of options, checked. What does not fit is a UsageFault whose message names the option. Numbers, patterns, colors, headers, cookies, credentials,
-// addresses (URLs), the size of the viewport (`WxH`), the user agent.
+// addresses (URLs), the size of the viewport (`WxH`), the user agent. Used by recording/options.js.
 
 const { parseEndpoint } = require('../browser/attached.js');
 const { UsageFault } = require('./parse.js');

@@ -5,7 +5,7 @@ import { findItem } from './core/lists.js';
 import { settings } from './core/settings.js';
 
 /**
- * The recording of the page around a frame, or null if that is of another origin.
+ * The recording of the page around a frame, or null if that is of another origin. Called by main.js.
  * @param {import('./types').PageWindow} window
  * @returns {import('./types').Recording|null}
  */
@@ -28,6 +28,7 @@ function frameOf(window) {
 }
 
 /**
+ * Called by main.js and page.js.
  * @param {import('./types').PageWindow} window
  * @param {import('./types').Recording} recording
  * @param {boolean} mayPass whether it can be the empty page that a frame shows before that of its `src`

@@ -1,4 +1,5 @@
-// The start of the recorder in one document. It runs before any script of the page.
+// The start of the recorder in one document. It runs before any script of the page. The page sees `__er` neither in a loop over the window nor in
+// `Object.keys`.
 
 import { fixChance } from './core/chance.js';
 import { each } from './core/lists.js';
@@ -103,7 +104,10 @@ function setHelpers(window, helpers, isFirst) {
   Object.defineProperty(window, '__er', { value: helpers, enumerable: false, configurable: isFirst });
 }
 
-/** @param {PageWindow} window */
+/**
+ * The start in a window. In one that a page opened and that is still empty, the recorder starts once `removeHold` is called.
+ * @param {PageWindow} window
+ */
 function begin(window) {
   const send = takeBinding(window) || (settings.isDriven ? sendLater(window) : () => {});
   if (settings.isDriven && window.__er) return; // it came as a part of the page before

@@ -164,7 +164,7 @@ class Page {
 
   /**
    * An empty page that code has touched passes its window to the frame's next page, with everything in it, and no recorder starts there. So it is
-   * looked for as a task starts: what the next page has by then is the parser's.
+   * looked for as a task starts: what the next page has by then is the parser's. Called by page/recording/recording.js.
    */
   lookForNextDocument() {
     const { window, recording } = this;
@@ -211,7 +211,7 @@ class Page {
   }
 
   /**
-   * The number of the document that a target belongs to.
+   * The number of the document that a target belongs to. Called by page/document/elements.js, page/document/sources.js and page/reach/controls.js.
    * @param {import('./types').Target} target
    */
   numberOfDocumentOf(target) {

@@ -1,5 +1,5 @@
 'use strict';
-// Short names of files, each different from those of the other files: `load.php?modules=startup` if several are `load.php`.
+// Short names of files, each different from those of the other files, also of those with one base name: `load.php?modules=startup` if several are `load.php`.
 
 /** A part of an address is shown up to this length. */
 const LONGEST_PART = 40;
@@ -50,7 +50,7 @@ function apart(address, all) {
 }
 
 /**
- * The short names of files by their indices.
+ * The short names of files by their indices. Called by thing-words.js.
  * @param {{address: string}[]} files
  * @returns {string[]}
  */

@@ -32,7 +32,7 @@ class Keys extends NamedRun {
   }
 
   /**
-   * The keys of this run by looser names.
+   * The keys of this run by looser names. Called by replay/replay.js and replay/reversal.js.
    * @returns {Keys}
    */
   loose() {
@@ -41,7 +41,8 @@ class Keys extends NamedRun {
   }
 
   /**
-   * The number of the user's act that caused an event, or caused another event that led to it, as a press leads to a click; 0 if there is no such act.
+   * The number of the user's act that caused an event, or caused another event that led to it, as a press leads to a click; 0 if there is no such act. Called
+   * by replay/found/compare.js.
    * @param {Action} action
    */
   actOf(action) {
@@ -126,7 +127,7 @@ class Keys extends NamedRun {
   }
 
   /**
-   * What an access is in any run: its key, and which of the accesses with this key it is.
+   * What an access is in any run: its key, and which of the accesses with this key it is. Called by replay/found/orders.js.
    * @param {{location: string, mode: string, action: number, line: number}} access
    * @returns {import('./types').AccessIdentity}
    */
@@ -147,7 +148,7 @@ class Keys extends NamedRun {
   }
 
   /**
-   * What an action is in any run: its key, and which of the actions with this key it is.
+   * What an action is in any run: its key, and which of the actions with this key it is. Called by replay/found/lawful.js.
    * @param {number} action
    */
   identifyAction(action) {
@@ -178,7 +179,8 @@ class Keys extends NamedRun {
   }
 
   /**
-   * Where an access is in this run, or null. A lookup of handlers where none was ever set is its event.
+   * Where an access is in this run, or null. A lookup of handlers where none was ever set is its event. Called by replay/due.js, replay/found/orders.js and
+   * replay/reversal.js.
    * @param {import('./types').AccessIdentity} access
    * @returns {Found|null}
    */
@@ -189,7 +191,7 @@ class Keys extends NamedRun {
   }
 
   /**
-   * Where the action of an access is in this run, whether or not it makes the access.
+   * Where the action of an access is in this run, whether or not it makes the access. Called by replay/due.js, replay/found/lawful.js and replay/reversal.js.
    * @param {import('./types').ActionIdentity} action
    * @returns {Found|null}
    */

@@ -11,7 +11,7 @@ const MOST_QUERIES = 300;
 const LONGEST = 4000;
 
 /**
- * The steps of a path from one action to another.
+ * The steps of a path from one action to another. Called by replay/causes/causes.js, replay/found/lawful.js and view/why.js.
  * @param {string} traceFile
  * @param {number} from
  * @param {number} to
@@ -58,7 +58,7 @@ class Paths {
 }
 
 /**
- * The links of the paths from the first action of each pair to its second, each `[from, to, rule]` once.
+ * The links of the paths from the first action of each pair to its second, each `[from, to, rule]` once. Called by view.js.
  * @param {string} traceFile
  * @param {[from: number, to: number][]} pairs
  * @returns {Promise<[from: number, to: number, rule: number][]|null>} null if they are left for later, since each answer would take a minute

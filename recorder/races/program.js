@@ -1,5 +1,6 @@
 'use strict';
-// Calls the analyzer (built, or unproved.js): queries about a trace. Nothing else here decides what races. It is spawned as a child process.
+// Calls the analyzer (built, or unproved.js): queries about a trace. Nothing else here decides what races. It is spawned as a child process. If it crashes or
+// cannot be run, its status and its words are the answer.
 
 const { spawn, spawnSync } = require('node:child_process');
 const fs = require('node:fs');
@@ -25,8 +26,8 @@ let state = process.env.ER_CLI ? 'built' : '';
 let program = PROGRAM;
 
 /**
- * `built`; `plain` if a program without proofs answers, after lines on standard error; `older` or `unbuilt` if an answer takes a minute; or `missing`, after a
- * line on standard error.
+ * The first word of what tools/program prints, which is run once: `built`; `plain` if a program without proofs answers, after lines on standard error; `older` or `unbuilt` if an answer takes a minute; or `missing`, after a
+ * line on standard error. The commands query it before they record or replay (page-races.js, suite.js, view.js, replay-command.js, index-task.js).
  */
 function programState() {
   if (!AT_ONCE.includes(state)) {
@@ -38,13 +39,14 @@ function programState() {
 }
 
 const answersAtOnce = () => AT_ONCE.includes(programState());
+/** Called by view.js. */
 const isProved = () => programState() === 'built';
 
-/** Which program answers, for a process that this one starts. */
+/** Which program answers, for a process that this one starts. Called by loads.js. */
 const programFacts = () => ({ state: programState(), program });
 
 /**
- * Takes the program of the process that started this one.
+ * Takes the program of the process that started this one. Called by load-judge.js.
  * @param {ReturnType<typeof programFacts>} facts
  */
 function useProgram(facts) {
@@ -78,7 +80,8 @@ function runProgram(args, traceFile) {
 }
 
 /**
- * Has the reports of several traces ready, if each answer takes a minute: together they take no longer than one.
+ * Has the reports of several traces ready, if each answer takes a minute: together they take no longer than one. Called by index-task.js, loads.js and
+ * page-races.js.
  * @param {string[]} traceFiles
  */
 async function askAhead(traceFiles) {
@@ -86,7 +89,7 @@ async function askAhead(traceFiles) {
 }
 
 /**
- * Has a trace analyzed.
+ * Has a trace analyzed. Called by within-limits.js.
  * @param {string} traceFile
  * @returns {Promise<Judged>} a report, or why there is none
  */

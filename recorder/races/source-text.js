@@ -19,13 +19,13 @@ const CUT = '(';
 const BEGIN_OF_STATEMENT = /(?:^|[;{})]|\belse|\bdo)\s*(?:[\w$]+\.)*$/;
 const BEGIN_OF_COUNT = /(?:^|[;{})]|\belse|\bdo)\s*(?:\+\+|--)\s*(?:[\w$]+\.)*$/;
 
-/** An address without its query, and without this machine as the server. */
+/** An address without its query, and without this machine as the server. Called by list/lasting.js. */
 const shortAddress = (/** @type {string|undefined} */ address) => (address || '').replace(/[?#].*$/, '').replace(/^\w+:\/\/(?:localhost|127\.0\.0\.1|\[::1\])(?::\d+)?(?=\/|$)/, '');
-/** An address as stable names contain it: without the digest of a build too. */
+/** An address as stable names contain it: without the digest of a build too. Called by list/lasting.js. */
 const lastingAddress = (/** @type {string|undefined} */ address) => withoutDigest(shortAddress(address));
 const withoutBlanks = (/** @type {string} */ text) => text.trim().replace(/\s+/g, ' ');
 
-/** Made for the names of a trace. */
+/** Made for the names of a trace, by thing-words.js and list/lasting.js. */
 class SourceText {
   /** @param {import('./types').NamesOfTrace} names */
   constructor(names) {

@@ -7,13 +7,13 @@ const { FIRST_FIELD, FIRST_MODULE } = require('../common/numbers.js');
 const STORED = /^(document\.cookie$|localStorage\.|sessionStorage\.)/;
 
 /**
- * A map's key that is an object contains a number of the run.
+ * A map's key that is an object contains a number of the run. Called by list/lasting.js and named-run.js.
  * @param {string} name
  */
 const withoutKeys = (name) => name.replace(/^\[object%20\d+\]$/, '[object]');
 
 /**
- * The name by which an access is looked for.
+ * The name by which an access is looked for. Called by keys.js.
  * @param {string} kind
  * @param {string} spelled
  */
@@ -30,7 +30,7 @@ function partsOf(location) {
 }
 
 /**
- * Whether a location is a variable of an element that no user fills in.
+ * Whether a location is a variable of an element that no user fills in. Called by list/looks.js, list/patterns/accesses.js and list/problems.js.
  * @param {string} location
  */
 function isOfTree(location) {
@@ -40,7 +40,7 @@ function isOfTree(location) {
 
 /**
  * Whether a write to a location that does not change the value is recorded as a read, or not at all where the action has read the location before. In the
- * other order the write may be recorded in another way, and at another place.
+ * other order the write may be recorded in another way, and at another place. Called by list/lasting.js and keys.js.
  * @param {string} location
  */
 function isByValue(location) {

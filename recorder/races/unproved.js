@@ -35,7 +35,7 @@ class Unproved {
   }
 
   /**
-   * Answers a query. A report is requested as text and as JSON, since most traces need both.
+   * Answers a query. A report is requested as text and as JSON, since most traces need both. Called by program.js.
    * @param {string[]} words
    * @param {string} trace
    */
@@ -47,7 +47,7 @@ class Unproved {
   }
 
   /**
-   * Requests the reports of traces, all at once.
+   * Requests the reports of traces, all at once. Called by program.js.
    * @param {string[]} traces
    */
   queryReports(traces) {
@@ -84,7 +84,7 @@ class Unproved {
     });
   }
 
-  /** Ends what runs, and waits for it. */
+  /** Ends what runs, and waits for it. Called by program.js. */
   async end() {
     await Promise.all([...this.running].map((child) => new Promise((resolve) => {
       child.on('close', resolve);

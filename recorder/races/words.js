@@ -1,5 +1,5 @@
 'use strict';
-// Actions and races in words, with the places in the page's source. Sentences that describe a race.
+// Actions and races in words (`the reply to GET data.json`), with the places in the page's source. Sentences that describe a race.
 
 const { FIRST_FOREIGN_TIMEOUT } = require('../common/numbers.js');
 const { shown } = require('../common/shown.js');
@@ -124,7 +124,7 @@ class Words extends ThingWords {
   }
 
   /**
-   * The reply to a request, in words.
+   * The reply to a request, in words. Called by replay/causes/files.js.
    * @param {string} number
    */
   reply(number) {
@@ -198,7 +198,7 @@ class Words extends ThingWords {
   }
 
   /**
-   * Calls a function while everything that distinguishes two sides is in the words.
+   * Calls a function while everything that distinguishes two sides is in the words. Called by list/callbacks.js and list/sides.js.
    * @template T
    * @param {() => T} tell
    * @returns {T}
@@ -229,7 +229,7 @@ class Words extends ThingWords {
   }
 
   /**
-   * Which one an action is, from 0, of the actions with the same words, in the order of the trace.
+   * Which one an action is, from 0, of the actions with the same words, in the order of the trace. Called by list/sides.js.
    * @param {number} number
    */
   nthOf(number) {

@@ -1,6 +1,6 @@
 'use strict';
 // The acts of the user in a recording: the steps of --do, those of an earlier run, and the clicks that the seed chooses. Random clicks come by `--clicks N` and
-// `--seed`.
+// `--seed`. Which step could not be done (failed), and why: `failures`.
 
 const { whyNoTarget } = require('../browser/input/fields.js');
 const { numberOfAct } = require('../common/numbers.js');
@@ -61,12 +61,12 @@ class Acts {
     return this.session.steering ? this.session.steering.actions(both) : both;
   }
 
-  /** Does the acts that do not wait for the page to load. */
+  /** Does the acts that do not wait for the page to load. Called by recorder.js. */
   async doEarly() {
     for (const act of this.planned().early) await this.do(act);
   }
 
-  /** Returns whether there were any. */
+  /** Returns whether there were any. Called by recorder.js. */
   async doLate() {
     const { late } = this.planned();
     for (const act of late) {
@@ -86,7 +86,7 @@ class Acts {
   }
 
   /**
-   * Clicks where the seed says (`--clicks`), until the time is over.
+   * Clicks where the seed says (`--clicks`), until the time is over. Called by recorder.js.
    * @param {import('../browser/user.js').User} user
    */
   async clickAround(user) {
@@ -168,7 +168,7 @@ class Acts {
 
   // ---- what was done, and what was not
 
-  /** What the user did, in words. */
+  /** What the user did, in words. Called by page-races.js. */
   doneInWords() {
     const all = [...this.done, ...this.user?.picks || []];
     if (!all.length) return 'nothing clicked or typed (--clicks N, --do STEP)';
@@ -178,7 +178,7 @@ class Acts {
     return [counted(clicks, 'click'), texts ? `${counted(texts, 'text')} typed` : 'nothing typed', ...others ? [counted(others, 'other step')] : []].join(', ');
   }
 
-  /** The steps that could not be done, as lines. */
+  /** The steps that could not be done, as lines. Called by record.js and recorder.js. */
   failures() {
     const { actions } = this.session.options;
     /** @param {Act} act */
@@ -186,7 +186,7 @@ class Acts {
     return this.notDone.map(({ act, why }) => `${nameOf(act)}, ${act.said}: ${why}${this.endsFlow(act) ? '; the steps after it were not done' : ''}`);
   }
 
-  /** What was not tried, as words. */
+  /** What was not tried, as words. Called by recorder.js. */
   notReached() {
     const { clicks } = this.session.options;
     const left = this.hasClicked ? 0 : clicks - (this.user?.picks.length || 0);

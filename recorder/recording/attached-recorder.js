@@ -1,6 +1,6 @@
 'use strict';
 // Records what another program drives: the page that the first tab of a running Chromium loads next, until the driver ends it or loads another one. `er_record
-// --attach`.
+// --attach` connects to an open browser.
 
 const { printError } = require('../common/output.js');
 const { BrowserFault } = require('../browser/protocol.js');

@@ -1,5 +1,5 @@
 'use strict';
-// What a page has scheduled, by its log. If none of it is due, a quiet page needs no long wait.
+// What a page has scheduled (timeouts, frames, messages), by its log, and until when it is waited for. If none of it is due, a quiet page needs no long wait.
 /* global document, window */
 
 /**
@@ -37,7 +37,7 @@ class Awaited {
   }
 
   /**
-   * Reads what is new in the log, as of a time.
+   * Reads what is new in the log, as of a time. Called by session.js.
    * @param {number} now
    */
   read(now) {
@@ -88,7 +88,7 @@ class Awaited {
   }
 
   /**
-   * Whether something can come until a time.
+   * Whether something can come until a time. Called by rest.js.
    * @param {number} time
    * @param {number} now
    */

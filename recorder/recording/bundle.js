@@ -83,6 +83,7 @@ class Bundle {
 }
 
 /**
+ * Called by page-script.js and view/html.js.
  * @param {string} entry the file of the module whose exports are wanted
  * @param {string[]} parameters names that the modules know
  * @param {(code: string) => string} [shorten] what is made of the code of each module

@@ -15,7 +15,7 @@ const NOT_BEFORE = new Set(['html', 'head', 'body', 'frameset', 'frame', 'col', 
 
 /** @typedef {import('../browser/responses/paused.js').Insertion} Insertion */
 
-/** The `Holds` (browser/responses/paused.js) of a run without a replay: HoldScripts calls it. */
+/** The `Holds` (browser/responses/paused.js) of a run without a replay: HoldScripts calls it. Made by session.js. */
 class ChaosHolds {
   /** @param {number} seed */
   constructor(seed) {

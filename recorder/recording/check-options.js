@@ -6,7 +6,7 @@ const { UsageFault } = require('../options/parse.js');
 /** @typedef {import('./options.js').CommandOptions} CommandOptions */
 
 /**
- * Checks options that depend on each other.
+ * Checks options that depend on each other. Called by options.js.
  * @param {CommandOptions} options
  */
 function checkOptions(options) {

@@ -48,7 +48,7 @@ function messageOf(description, sources) {
 }
 
 /**
- * What the page wrote to the console.
+ * What the page wrote to the console. Called by session.js.
  * @param {RemoteValue[]} values
  * @param {Sources} [sources]
  */
@@ -72,7 +72,7 @@ function placeOfError({ url, lineNumber, stackTrace }, page) {
 }
 
 /**
- * An uncaught error with its place.
+ * An uncaught error with its place. Called by driven/load.js and session.js.
  * @param {ExceptionDetails} details
  * @param {string} page its address
  * @param {Sources} [sources]

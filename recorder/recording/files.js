@@ -23,7 +23,10 @@ const { originOf } = require('./origin.js');
  * @property {() => string[]} [lacks] what it lacks of what was to be recorded
  */
 
-/** @param {string} traceFile */
+/**
+ * Called by index-task.js, record.js and suite-loads.js.
+ * @param {string} traceFile
+ */
 const namesFile = (traceFile) => `${traceFile.replace(/\.trace$/, '')}.names.json`;
 
 /**
@@ -57,7 +60,7 @@ function readRun(recorded, options) {
 }
 
 /**
- * Writes the trace and its names, also of a recording that ended early. Returns what the limits left out, as lines.
+ * Writes the trace and its names, also of a recording that ended early. Returns what the limits left out, as lines. Called by driven/load.js and record.js.
  * @param {Recorded} recorded
  * @param {RecordingOptions} options
  * @param {string} traceFile

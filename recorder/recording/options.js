@@ -94,7 +94,10 @@ const { checkOptions } = require('./check-options.js');
 const MOST_RUNS = 100;
 const MOST_JOBS = 100;
 
-/** @returns {CommandOptions} */
+/**
+ * The options of a call without arguments.
+ * @returns {CommandOptions}
+ */
 function defaults() {
   return {
     actions: [], flowPage: null, flowOfMany: null, keepsGoing: false, clicks: 0, seed: 1, avoided: AVOIDED, slow: 0, time: 30, version: NEWEST_VERSION, root: null, fallback: null,
@@ -279,7 +282,7 @@ function parseCommand(command, args) {
 }
 
 /**
- * The options in a list of arguments, as a recording saves them; the positional ones among them say nothing.
+ * The options in a list of arguments, as a recording saves them; the positional ones among them say nothing. Called by driven/main.js and origin.js.
  * @param {string[]} args
  */
 const parseOptions = (args) => parseBy(args, ANY).options;

@@ -24,7 +24,7 @@ const { parseOptions } = require('./options.js');
  * @property {number} salt
  */
 
-/** Why a trace can't be recorded again. */
+/** Why a trace can't be recorded again: its status is in command.js. */
 class OriginFault extends Error {}
 
 /** @param {string} given */
@@ -54,7 +54,7 @@ function fromTrace(given, traceFile) {
 const toPage = (page, traceFile) => (isAddress(page) ? page : path.join(path.dirname(traceFile), page));
 
 /**
- * The options that decide what is recorded, as arguments.
+ * The options that decide what is recorded, as arguments. Called by many-pages.js.
  * @param {RecordingOptions} options
  */
 function argumentsOf(options) {
@@ -68,7 +68,7 @@ function argumentsOf(options) {
 }
 
 /**
- * What OUT.names.json saves.
+ * What OUT.names.json saves. Called by files.js.
  * @param {{given: string, user?: {picks: object[]}|null}} recorder
  * @param {RecordingOptions & {isDriven?: boolean}} options
  * @param {string} traceFile
@@ -121,7 +121,7 @@ function readNames(file) {
 const isTexts = (list) => Array.isArray(list) && list.every((one) => typeof one === 'string');
 
 /**
- * A trace that was recorded before, its names, and how to record its page again. Fails with an OriginFault.
+ * A trace that was recorded before, its names, and how to record its page again. Fails with an OriginFault. Called by replay-race.js.
  * @param {string} traceFile
  */
 function readOrigin(traceFile) {

@@ -1,6 +1,6 @@
 'use strict';
-// The recorder's script for the browser: the modules of page/ in one text, and the settings of a recording. The browser injects it into each document before
-// any script of the page (an init script).
+// The recorder's script for the browser: the modules of page/ in one text, and the settings of a recording. The browser injects it into each document (also of
+// frames: iframes) before any script of the page (an init script).
 
 const { randomUUID } = require('node:crypto');
 const path = require('node:path');
@@ -19,7 +19,7 @@ const SCRIPT_NAME = '__er-recorder';
 
 /**
  * The names that only the recorder knows, of one recording: that of its binding, through which the page's half sends its lines, and the secret for which
- * the page's half gives its recording to the driver.
+ * the page's half gives its recording to the driver. Called by driven/browser-recorder.js and session.js.
  * @returns {import('../page/types').OwnNames}
  */
 function ownNames() {
@@ -83,6 +83,7 @@ function settingsCode(handlerOwners, {
 let modules = null;
 
 /**
+ * Called by driven/browser-recorder.js and session.js.
  * @param {string[]|null} handlerOwners
  * @param {Partial<import('../page/types').Settings>} options
  * @returns {string}

@@ -1,6 +1,7 @@
 'use strict';
 // Records one page in a browser of its own: loads it, does what the user does, and waits until the page is at rest. `--time` limits how long it loads (the
-// maximum duration): if the load event does not come within it, the trace is written all the same, as not complete (`cut`; status: ../record.js).
+// maximum duration): if the page takes too long, so that the load event does not come within it, the trace is written all the same, as not complete (`cut`;
+// status: ../record.js). If the page cannot be reached (connection refused, unknown host, 404), `notLoaded` has the message.
 
 const { Chromium } = require('../browser/chromium.js');
 const { resolveAddress } = require('../browser/folder.js');
@@ -72,7 +73,7 @@ class Recorder extends Session {
     return this.rest.isRestless;
   }
 
-  /** Records the page. Fails with a RecordingFault; what was recorded until then is in the intake. */
+  /** Records the page. Fails with a RecordingFault; what was recorded until then is in the intake. Called by page-flow.js, record.js and replay/runs.js. */
   async record() {
     await this.runToEnd(() => this.recordToEnd(), () => this.closeBrowser());
   }
@@ -211,7 +212,7 @@ class Recorder extends Session {
 
   // ---- what was not recorded
 
-  /** Why the recording is not complete though it came to an end: what was not done when its time was over, or ''. */
+  /** Why the recording is not complete though it came to an end: what was not done when its time was over, or ''. Called by record.js. */
   cut() {
     if (this.options.isRaw || !this.hasAnswered || this.isUsed) return '';
     const left = this.acts.notReached();
@@ -225,6 +226,7 @@ class Recorder extends Session {
     return [...failures.map((line) => `not done: ${line}`), ...[this.cut()].filter(Boolean)];
   }
 
+  /** Called by index-task.js and record.js. */
   losses() {
     return [...super.losses(), ...this.windows ? [`windows that the page opened, closed at once: ${this.windows}`] : []];
   }

@@ -59,7 +59,7 @@ class Rest {
     return false;
   }
 
-  /** Waits before the acts of the user. A page that is not quiet must leave time for these. */
+  /** Waits before the acts of the user. A page that is not quiet must leave time for these. Called by recorder.js. */
   async waitBeforeActs() {
     const { session } = this;
     const { actions, clicks } = session.options;
@@ -84,6 +84,7 @@ class Rest {
 
   /**
    * Makes a function that is called again and again: whether a page has become quiet in which nothing is due until a time. False in a run that is not compared.
+   * Called by acts.js.
    * @param {number} until
    */
   nothingComes(until) {
@@ -100,7 +101,7 @@ class Rest {
     };
   }
 
-  /** If the ends of runs are compared, a page that still does something is waited for longer. */
+  /** If the ends of runs are compared, a page that still does something is waited for longer. Called by recorder.js. */
   waitForEnd() {
     const { whenOver, turns, hasOnlyTurns } = this.session.options;
     if (!whenOver) return this.waitForQuiet();
@@ -129,7 +130,7 @@ class Rest {
   }
 
   /**
-   * Waits until a replay releases what it holds back. When nothing happens any more, it must.
+   * Waits until a replay releases what it holds back. When nothing happens any more, it must. Called by acts.js and recorder.js.
    * @param {() => boolean} isReleased
    */
   async waitForRelease(isReleased) {
@@ -140,7 +141,9 @@ class Rest {
     }
   }
 
-  /** Waits for the load event. If a replay holds back something that load waits for, a quiet page is as loaded as it gets. */
+  /**
+   * Waits for the load event. If a replay holds back something that load waits for, a quiet page is as loaded as it gets. Called by acts.js and recorder.js.
+   */
   async waitForLoad() {
     const { session } = this;
     while (!session.isLoaded && Date.now() < session.until) {

@@ -1,6 +1,6 @@
 'use strict';
-// What a recording of a tab has, whoever drives the tab: its log, texts and errors, how it is prepared, and how it ends. Dialogs are answered here, and a crash
-// is noticed (`listen`).
+// What a recording of a tab has, whoever drives the tab: its log, texts and errors, how it is prepared, and how it ends. Dialogs (alert, confirm, prompt) are
+// answered here, and a crash is noticed (`listen`).
 /* global window, Element */
 
 const { BrowserFault } = require('../browser/protocol.js');
@@ -65,7 +65,7 @@ const NO_STOP = () => {};
 
 /**
  * Runs in an empty page: the names that every window has, the interfaces with `on..` properties, and the event handler attributes of elements. Two of these
- * have no property.
+ * have no property. Called by driven/browser-recorder.js.
  */
 function browserFacts() {
   const names = [];
@@ -80,7 +80,7 @@ function browserFacts() {
   return { names, handlerOwners, handlerNames: [...new Set(['onfocusin', 'onfocusout', ...handlerOwners.filter(isElement).flatMap(handlersOf)])] };
 }
 
-/** Why a recording ended before its end. */
+/** Why a recording ended before its end. Made by attached-recorder.js and recorder.js. */
 class RecordingFault extends Error {
   /**
    * @param {string} message
@@ -143,12 +143,12 @@ class Session {
     this.stop(new RecordingFault('stopped', STATUS.stopped));
   }
 
-  /** How many requests are open whose end is waited for. */
+  /** How many requests are open whose end is waited for. Called by rest.js. */
   openRequests() {
     return this.responses ? this.responses.openRequests() : 0;
   }
 
-  /** The tab, once it is open. */
+  /** The tab, once it is open. Called by acts.js and rest.js. */
   openTab() {
     if (!this.tab) throw new Error('the tab is not open yet');
     return this.tab;
@@ -256,7 +256,7 @@ class Session {
     this.steering?.look();
   }
 
-  /** Asks the page for its lines so far. */
+  /** Asks the page for its lines so far. Called by rest.js. */
   async flush() {
     this.awaited?.read(Date.now());
     await this.callRecording('flush');

@@ -20,6 +20,7 @@ function fillStorage(origins) {
 }
 
 /**
+ * Called by driven/flow-recorder.js and recorder.js.
  * @param {import('../browser/tab.js').Tab} tab
  * @param {string} address of the page
  * @param {Partial<import('./options.js').RecordingOptions>} options

@@ -56,12 +56,12 @@ class Confirm {
 
   // ---- races that wait for each other
 
-  /** Expects a race, so that others may wait for its claim. */
+  /** Expects a race, so that others may wait for its claim. Called by replay.js. */
   expect() {
     this.expected++;
   }
 
-  /** Called when an expected race has come to its claim, or needs no runs. */
+  /** Called when an expected race has come to its claim, or needs no runs. Called by replay.js. */
   arrive() {
     this.expected--;
     if (this.expected <= 0 || this.waiting.length >= MOST_SHARED) this.startWaiting();
@@ -87,7 +87,7 @@ class Confirm {
   }
 
   /**
-   * What differs in a run in which a race was reversed. `arrived` is called once the race needs no more runs of its own.
+   * What differs in a run in which a race was reversed. `arrived` is called once the race needs no more runs of its own. Called by replay.js.
    * @param {Reversed} one
    * @param {number} number of the race
    * @param {() => void} arrived

@@ -37,7 +37,7 @@ class Due {
   }
 
   /**
-   * Whether the access, or its action, is in the log by now.
+   * Whether the access, or its action, is in the log by now. Called by steering.js.
    * @param {import('../recording/recorder.js').Recorder} recorder
    */
   hasCome(recorder) {

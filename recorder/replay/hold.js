@@ -1,5 +1,6 @@
 'use strict';
-// One thing that a run of a replay holds back. A response, a timer, an event or an act of the user.
+// One thing that a run of a replay holds back. A response, a timer, an event or an act of the user; of several requests of one address (retries), that with a
+// number.
 
 const { HOLD_NAME } = require('../browser/content-policy.js');
 const { inAnyRun } = require('../common/request-address.js');
@@ -49,7 +50,7 @@ class Hold {
   }
 
   /**
-   * The address at which the parser or the load waits.
+   * The address at which the parser or the load waits. Called by steering.js.
    * @param {string} address
    */
   source(address) {
@@ -57,7 +58,7 @@ class Hold {
   }
 
   /**
-   * Whether it makes the parser of a page wait, and goes on.
+   * Whether it makes the parser of a page wait, and goes on. Called by steering.js.
    * @param {string} address
    */
   isOfPage(address) {
@@ -65,7 +66,7 @@ class Hold {
   }
 
   /**
-   * Whether a request is the one to hold back.
+   * Whether a request is the one to hold back. Called by steering.js.
    * @param {Paused} request
    */
   meets({ request, resourceType, redirectedRequestId }) {
@@ -76,23 +77,23 @@ class Hold {
     return this.met === nth;
   }
 
-  /** Notes that it waits now. */
+  /** Notes that it waits now. Called by steering.js. */
   hold() {
     if (!this.heldAt) this.heldAt = Date.now();
   }
 
-  /** Whether it has a length, and has waited for it. */
+  /** Whether it has a length, and has waited for it. Called by steering.js. */
   isOver() {
     return this.length !== null && this.heldAt > 0 && Date.now() - this.heldAt >= this.length;
   }
 
-  /** Whether it waits for its length. */
+  /** Whether it waits for its length. Called by steering.js. */
   isTimed() {
     return this.length !== null && this.heldAt > 0 && !this.isReleased;
   }
 
   /**
-   * Waits until it is released.
+   * Waits until it is released. Called by steering.js.
    * @param {string} key of the request that waits
    */
   async wait(key) {
@@ -102,7 +103,7 @@ class Hold {
     await this.over;
   }
 
-  /** Lets everything go that it holds back. */
+  /** Lets everything go that it holds back. Called by steering.js. */
   release() {
     this.isReleased = true;
     this.heldFor = this.heldAt ? Date.now() - this.heldAt : 0;

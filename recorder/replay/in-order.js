@@ -30,6 +30,7 @@ class InOrder {
 
   /**
    * Runs the page until the other races come in their recorded order too, or as often as is tried. A race that does not is held in its order in the next run.
+   * Called by free-run.js and replay.js.
    * @param {string} name
    * @param {number} number of the race; 0 if none is reversed
    * @param {Reversal|null} reversal
@@ -83,7 +84,7 @@ class InOrder {
   }
 
   /**
-   * The races that came in another order than recorded, and did not have to.
+   * The races that came in another order than recorded, and did not have to. Called by confirm.js.
    * @param {FurtherRun} run
    * @param {Race[]} reversed
    */

@@ -1,5 +1,5 @@
 'use strict';
-// Whether races can be reversed in one run, and each then be looked at by itself.
+// Whether several races can be reversed in one run, and each then be looked at by itself.
 
 const { splitBy } = require('./found/differences.js');
 const { isOnePair } = require('./found/orders.js');
@@ -56,7 +56,7 @@ function turnTogether(one, other, { orders }) {
 
 /**
  * Whether a race can share runs with all of some others. Either they turn together; or it is apart from them: another thing is held back for it, by no act of
- * a user; it holds none of them, nor they it; and its differences are others.
+ * a user; it holds none of them, nor they it; and its differences are others. Called by confirm.js.
  * @param {Claim} claim
  * @param {Claim[]} others
  * @param {Order} order

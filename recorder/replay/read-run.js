@@ -5,6 +5,7 @@ const { Keys } = require('../races/keys.js');
 const { readRun } = require('../recording/files.js');
 
 /**
+ * Called by due.js and runs.js.
  * @param {import('../recording/recorder.js').Recorder} recorder
  * @param {Parameters<typeof readRun>[1]} options of the recording
  * @param {boolean} isLoose how the keys are made

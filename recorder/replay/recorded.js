@@ -47,7 +47,7 @@ class Recorded {
   }
 
   /**
-   * What can be held back in a run.
+   * What can be held back in a run. Called by reversal.js.
    * @param {Pick<Run, 'keys'|'recorder'>} run
    */
   causesIn({ keys, recorder }) {
@@ -58,7 +58,7 @@ class Recorded {
   }
 
   /**
-   * The causes that can be held back so that a race comes in the other order.
+   * The causes that can be held back so that a race comes in the other order. Called by replay.js.
    * @param {Race} race
    */
   toReverse({ actions: [first, second] }) {
@@ -87,7 +87,7 @@ class Recorded {
 
   /**
    * Whether a race has to come in the other order when another one does: there are paths from the first action of the other race to its first action, and
-   * from its second action to that of the other race.
+   * from its second action to that of the other race. Called by in-order.js.
    * @param {Race} race
    * @param {Race} reversed
    */
@@ -96,7 +96,7 @@ class Recorded {
   }
 
   /**
-   * What holds a race in its recorded order: the second access comes when the first one has come. Null if nothing can.
+   * What holds a race in its recorded order: the second access comes when the first one has come. Null if nothing can. Called by confirm.js and in-order.js.
    * @param {Race} race
    * @returns {Promise<import('./types').OrderHold|null>}
    */
@@ -107,7 +107,7 @@ class Recorded {
   }
 
   /**
-   * The number of the last act of the user that an action needs, or 0.
+   * The number of the last act of the user that an action needs, or 0. Called by replay.js.
    * @param {number} action
    */
   lastActBefore(action) {

@@ -29,7 +29,7 @@ const LARGEST_SEED = 2 ** 32 - 1;
 
 /**
  * What `page/core/chance.js` gets so that each run of a recording has the same random numbers and clock. Another recording has other ones, as without the
- * recorder: a page that makes the names of its data by chance may store them.
+ * recorder: a page that makes the names of its data by chance may store them. Called by page-races.js and replay-race.js.
  * @param {{isLive: boolean}} options
  */
 const chance = (options) => (options.isLive ? null : { seed: randomInt(LARGEST_SEED), date: Date.now() });
@@ -58,23 +58,23 @@ class Replay {
     return this.free.unsteady;
   }
 
-  /** Stops the runs that are under way. */
+  /** Stops the runs that are under way. Called by replay-command.js. */
   interrupt() {
     this.runs.interrupt();
   }
 
-  /** Runs the page with nothing reversed, which all races need. */
+  /** Runs the page with nothing reversed, which all races need. Called by replay-command.js. */
   runFreely() {
     return this.free.run();
   }
 
-  /** Ends what compares the runs. The browser stays. */
+  /** Ends what compares the runs. The browser stays. Called by replay-command.js. */
   close() {
     return this.differences.close();
   }
 
   /**
-   * Runs the page so that a race comes in the other order. Races that are reversed at once share runs.
+   * Runs the page so that a race comes in the other order. Races that are reversed at once share runs. Called by replay-command.js.
    * @param {Race} race
    * @param {number} number of the race in the report
    * @returns {Promise<Result>}

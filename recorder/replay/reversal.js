@@ -15,7 +15,7 @@ function whyNot(hold) {
 }
 
 /**
- * Judges the order of a race's two accesses in a run. The analyzer says whether they race there too.
+ * Judges the order of a race's two accesses in a run. The analyzer says whether they race there too. Called by confirm.js, in-order.js and suite-replays.js.
  * @param {FurtherRun} run
  * @param {import('./hold.js').Hold} hold of the race's cause
  * @param {Reversal} reversal
@@ -53,7 +53,7 @@ async function judgeRace(run, pair, line) {
 
 /**
  * What is held back, as a run that was not reversed has it: of several requests at one place in the code another one can be the right one. Null if it is the
- * same.
+ * same. Called by replay.js.
  * @param {import('./recorded.js').Recorded} recorded
  * @param {FurtherRun} run
  * @param {Reversal} reversal

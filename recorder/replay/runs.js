@@ -24,7 +24,7 @@ const GRACE = 5000;
 const LINES_AT_ONCE = 200000;
 
 /**
- * Options of a recording whose end is compared: the page stands still then.
+ * Options of a recording whose end is compared: the page stands still then. Called by replay.js.
  * @template T
  * @param {T} options
  */
@@ -36,12 +36,15 @@ function withEnd(options) {
   return { ...options, standsStill: true, whenOver, hasOnlyTurns };
 }
 
-/** @param {unknown} error */
+/**
+ * Called by confirm.js and replay.js.
+ * @param {unknown} error
+ */
 const isStop = (error) => error instanceof RecordingFault && error.status === STATUS.stopped;
 
 /**
  * How many runs of a page go on at once: they mostly wait. Only one if a run may change something on a server, which another run would find; fewer if the log
- * is long, since reading it delays the other runs.
+ * is long, since reading it delays the other runs. Called by replay.js.
  * @param {{atOnce?: number}} options
  * @param {{responses?: {asked: string[]}|null, intake: {entries: unknown[]}}} recorder of the recorded run
  */
@@ -92,14 +95,14 @@ class Runs {
     this.received = changing(recorder.responses?.asked || []).length ? null : recorder.kept;
   }
 
-  /** Stops the runs that are under way. */
+  /** Stops the runs that are under way. Called by replay.js. */
   interrupt() {
     this.isStopped = true;
     this.current.forEach((recorder) => recorder.interrupt());
   }
 
   /**
-   * Runs the page as soon as there is room: runs of the first race come first.
+   * Runs the page as soon as there is room: runs of the first race come first. Called by confirm.js and in-order.js.
    * @param {string} name
    * @param {number[]} numbers of the races it is for; none if it is for all
    * @param {RunSteering|null} steering
@@ -152,7 +155,7 @@ class Runs {
   }
 
   /**
-   * Writes the trace and the names of a further run.
+   * Writes the trace and the names of a further run. Called by in-order.js.
    * @param {FurtherRun} run
    */
   write({ file, text, names }) {
@@ -162,7 +165,7 @@ class Runs {
   }
 
   /**
-   * What a run holds back.
+   * What a run holds back. Called by confirm.js and in-order.js.
    * @param {import('./types').Reversal[]} reversals
    * @param {import('./types').OrderHold[]} orderHolds
    */

@@ -143,6 +143,7 @@ function ofNotTurned({ why = '', chance }) {
 }
 
 /**
+ * Called by verdict.js.
  * @param {Result} result
  * @param {Difference|undefined} worst the worst difference, if there is one
  * @param {string} location of the race

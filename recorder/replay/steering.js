@@ -1,5 +1,6 @@
 'use strict';
-// What one run of a replay holds back, each thing until something else has come. It gives up (timeout) if the second access does not come.
+// What one run of a replay holds back, each thing (a hold) until something else has come: then it is released, and what waits goes on. It gives up (timeout) if
+// the second access does not come.
 
 const { HOLD_NAME } = require('../browser/content-policy.js');
 const { ofRecording } = require('../recording/page-script.js');

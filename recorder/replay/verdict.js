@@ -29,6 +29,7 @@ const EFFECTS = [
 const VERDICTS = { differs: 'differs', not: 'could not be turned', same: 'no visible difference' };
 
 /**
+ * Called by replay-command.js.
  * @param {Pick<Result, 'verdict'|'differences'>} result
  * @returns {'differs'|'same'|'not'}
  */
@@ -38,7 +39,7 @@ function verdictOf({ verdict, differences = [] }) {
 }
 
 /**
- * The worst effect: its name, its rank and the difference that has it; null if nothing differs.
+ * The worst effect: its name, its rank and the difference that has it; null if nothing differs. Called by replay-command.js and suite-replays.js.
  * @param {Pick<Result, 'differences'>} result
  */
 function worstOf({ differences = [] }) {
@@ -47,7 +48,7 @@ function worstOf({ differences = [] }) {
 }
 
 /**
- * Sorts races that differ before others, the worst first; then those that could not be reversed; then the harmless ones.
+ * Sorts races that differ before others, the worst first; then those that could not be reversed; then the harmless ones. Called by replay-command.js.
  * @param {Numbered} a
  * @param {Numbered} b
  */
@@ -69,7 +70,10 @@ function chanceInWords(chance, isTurned) {
   return `${the} came in the other order by themselves in ${of} runs in which nothing steered them (replays/${chance.turned[0]}.trace)`;
 }
 
-/** @param {Result['group']} group */
+/**
+ * Called by replay-command.js.
+ * @param {Result['group']} group
+ */
 function groupInWords(group) {
   if (!group) return '';
   const { turned, kept, gone } = group;
@@ -95,7 +99,10 @@ function notesOf(result) {
 
 const seenOf = (/** @type {Difference[]} */ list = []) => list.filter(({ isSeen }) => isSeen);
 
-/** @param {Result} result */
+/**
+ * The verdict on a race that came in the other order: what differs, else that nothing does; and what differs without the order too.
+ * @param {Result} result
+ */
 function turnedInWords(result) {
   const notes = notesOf(result).map((one) => `; ${one}`).join('');
   const delayed = seenOf(result.byDelay).length ? `, but what the delay alone does too: ${someInWords(seenOf(result.byDelay), SIDES).join('; ')}` : '';
@@ -111,7 +118,7 @@ function turnedInWords(result) {
 }
 
 /**
- * The verdict in a line.
+ * The verdict in a line. Called by replay-command.js and suite-replays.js.
  * @param {Result} result
  */
 function verdictInWords(result) {
@@ -131,7 +138,7 @@ function verdictInWords(result) {
  * `unordered`.
  * `group`: the numbers of the other races of its group by how they came (`turned`, `kept`, `gone`); `astray`: other races that came in another order; `chance`:
  * the runs in which this one came in which order by itself (`kept`, `turned`), or in the other one since another race was reversed (`implied`).
- * `comparedAt`: after what a page that never rests was compared; `trace`: the trace in the other order.
+ * `comparedAt`: after what a page that never rests was compared; `trace`: the trace in the other order. Called by replay-command.js.
  * @param {Result} result
  * @param {Race} race
  * @param {number} number

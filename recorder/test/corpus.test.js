@@ -34,7 +34,7 @@ test('what a recording says is read', () => {
   const said = 'er_record: 5 actions in 1.0 s\n  not done: click:x\n  not recorded: frames: 2\n  load of the page: 0.25 s\n  error: E (a.js:1)\n';
   assert.deepStrictEqual(readSaid(said), { load: 0.25, errors: ['E (a.js:1)'], notRecorded: ['frames: 2'], notDone: [': click:x'] });
   assert.strictEqual(readSaid('').load, null);
-  assert.strictEqual(faultOf('er_record: 5 actions in 1.0 s\nx\ner_page: stopped\ny\n', 'er_page'), 'er_page: stopped');
+  assert.strictEqual(faultOf('er_page: 5 actions in 1.0 s\nx\ner_page: stopped\ny\n', 'er_page'), 'er_page: stopped');
   assert.deepStrictEqual(['a\ner_record: no page\nb', 'a\nTypeError: x\n  at b', 'a\nb\n'].map((text) => faultOf(text)), ['er_record: no page', 'TypeError: x', 'b']);
 });
 

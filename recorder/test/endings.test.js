@@ -144,7 +144,7 @@ test('a page that does not load', { timeout: 150000 }, async () => {
   const own = temporary('missing');
   const missing = await run('er_record', [path.join(PAGES, 'not-there.html'), traceFile('missing')], own);
   assert.strictEqual(missing.status, 4, missing.stderr);
-  assert.match(missing.stderr, /not-there.html did not load/);
+  assert.match(missing.stderr, /^er_record: .*not-there\.html did not load/m);
   assert.ok(isWhole(traceFile('missing')));
   const closed = await run('er_record', ['http://127.0.0.1:1/', traceFile('closed')], own);
   assert.strictEqual(closed.status, 4);

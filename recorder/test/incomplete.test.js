@@ -81,8 +81,8 @@ const filesOf = (page) => fs.readdirSync(path.join(folder, `${page}.races`)).sor
 test('a step that could not be done fails the run, and all files are written', LIMIT, async () => {
   const { status, stdout, stderr } = await call('er_page', `${origin}/button`, '--do', 'click:#now', '--do', 'click:#typo', '--do', 'type:#hidden:x');
   assert.strictEqual(status, 6, stderr);
-  assert.match(stderr, /^er_record: not done: step 2 of --do, click:#typo: no element matches the selector, after 5 s$/m);
-  assert.match(stderr, /^er_record: not done: step 3 of --do, type:#hidden:x: the element has no size/m);
+  assert.match(stderr, /^er_page: not done: step 2 of --do, click:#typo: no element matches the selector, after 5 s$/m);
+  assert.match(stderr, /^er_page: not done: step 3 of --do, type:#hidden:x: the element has no size/m);
   assert.match(stdout, /^No race in what was recorded, which is not complete\. Done in the page: 1 click, nothing typed\.$/m);
   assert.deepStrictEqual(filesOf('button'), ['page.html', 'page.names.json', 'page.report', 'page.trace']);
 });
@@ -115,7 +115,7 @@ test('a step waits for a target that a timer makes', LIMIT, async () => {
 test('a recording whose time was over is not complete', LIMIT, async () => {
   const { status, stdout, stderr } = await call('er_page', `${origin}/hangs`, '--time', '3', '--do', 'click:#now', '--clicks', '2');
   assert.strictEqual(status, 4, stderr);
-  assert.match(stderr, /^er_record: the recording is not complete: the time of 3 s was over before the page was quiet$/m);
+  assert.match(stderr, /^er_page: the recording is not complete: the time of 3 s was over before the page was quiet$/m);
   assert.match(stdout, /^No race in what was recorded, which is not complete\. Done in the page: \d clicks?, nothing typed\.$/m);
   const races = await call('er_page', `${origin}/races`, '--time', '3');
   assert.strictEqual(races.status, 1, races.stderr);
@@ -174,7 +174,7 @@ test('a link that is valid once', LIMIT, async () => {
 });
 
 test('a page that its server refuses did not load', LIMIT, async () => {
-  for (const [page, said] of [['gone', /did not load: the server answered 404 \(no such page\)$/m], ['broken', /did not load: the server answered 500$/m], ['locked', /answered 403$/m]]) {
+  for (const [page, said] of [['gone', /^er_page: \S+ did not load: the server answered 404 \(no such page\)$/m], ['broken', /did not load: the server answered 500$/m], ['locked', /answered 403$/m]]) {
     const { status, stdout, stderr } = await call('er_page', `${origin}/${page}`);
     assert.deepStrictEqual([status, stdout], [4, ''], stderr);
     assert.match(stderr, /** @type {RegExp} */ (said));

@@ -2,7 +2,7 @@
 // where.js and the map of README.md: questions in a newcomer's words lead to the file among the first lines.
 
 const assert = require('node:assert');
-const { execFileSync } = require('node:child_process');
+const { execFileSync, spawnSync } = require('node:child_process');
 const fs = require('node:fs');
 const path = require('node:path');
 const { test } = require('node:test');
@@ -87,8 +87,8 @@ function filesOf(lines) {
 }
 
 /** Of the questions of where-questions.json so many lead to their file at once, or within three files. */
-const SHARE_FIRST = 0.8;
-const SHARE_OF_THREE = 0.93;
+const SHARE_FIRST = 0.78;
+const SHARE_OF_THREE = 0.92;
 
 test('questions as newcomers ask them lead to the file that has the answer', () => {
   const ranks = CORPUS.map(({ question, files }) => {
@@ -96,7 +96,7 @@ test('questions as newcomers ask them lead to the file that has the answer', () 
     return { question, at: filesOf(answer(question)).findIndex((file) => files.includes(file)) };
   });
   const missed = ranks.filter(({ at }) => at).map(({ question, at }) => `${at + 1 || '-'} ${question}`).join('\n');
-  assert.ok(CORPUS.length >= 190);
+  assert.ok(CORPUS.length >= 400);
   assert.ok(ranks.filter(({ at }) => at === 0).length >= SHARE_FIRST * CORPUS.length, missed);
   assert.ok(ranks.filter(({ at }) => at >= 0 && at < 3).length >= SHARE_OF_THREE * CORPUS.length, missed);
 });
@@ -140,6 +140,13 @@ test('a file of the map has the names that the map has of it', () => {
     const text = files.filter((name) => name === file || name.endsWith(`/${file}`)).map((name) => fs.readFileSync(path.join(__dirname, '..', name), 'utf8')).join('\n');
     for (const [, name] of names.matchAll(/`(\w+)`/g)) assert.match(text, new RegExp(`\\b${name}\\b`), `${name} in ${file}`);
   }
+});
+
+test('--help prints the usage, and no word is a wrong call', () => {
+  for (const word of ['-h', '--help']) assert.match(execFileSync(process.execPath, [WHERE, word], { encoding: 'utf8' }), /^usage: recorder\/where\.js WORD\.\.\n\n/);
+  const { status, stderr } = spawnSync(process.execPath, [WHERE], { encoding: 'utf8' });
+  assert.strictEqual(status, 2);
+  assert.match(stderr, /^usage: recorder\/where\.js WORD\.\.\n/);
 });
 
 test('a word that is only in code comes with its lines; words that are nowhere are named, also parts of names; documents', () => {

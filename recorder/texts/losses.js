@@ -11,6 +11,7 @@
  */
 
 /**
+ * Called by driven/load.js and recording/session.js.
  * @param {{missed: {[what: string]: number}}} intake what the page's log has counted (`Log.miss` in page/log/log.js)
  * @param {Counts} counts
  * @returns {string[]}

@@ -6,6 +6,7 @@ const { FIRST_MODULE } = require('../common/numbers.js');
 /** A name that says an address: one that an import map resolves does not. */
 const SAYS_ADDRESS = /^(\.{0,2}\/|[a-z][a-z\d+.-]*:)/i;
 
+/** Made by sources.js. */
 class Modules {
   constructor() {
     /** @type {string[]} */
@@ -15,7 +16,7 @@ class Modules {
   }
 
   /**
-   * The number of a new module. In a page several modules have one address.
+   * The number of a new module. In a page several modules have one address. Called by source.js.
    * @param {string} address
    */
   add(address) {
@@ -23,7 +24,7 @@ class Modules {
   }
 
   /**
-   * The number of the module that is the file at an address.
+   * The number of the module that is the file at an address. Called by source.js.
    * @param {string} address
    */
   at(address) {
@@ -33,7 +34,7 @@ class Modules {
   }
 
   /**
-   * The number of a module that another one imports, or undefined if its name says no address.
+   * The number of a module that another one imports, or undefined if its name says no address. Called by source.js.
    * @param {string} name
    * @param {string} base the address of the module that imports it
    */
@@ -47,7 +48,7 @@ class Modules {
   }
 
   /**
-   * The address of a module.
+   * The address of a module. Called by trace/names.js.
    * @param {number} number
    */
   addressOf(number) {

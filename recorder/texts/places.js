@@ -40,7 +40,7 @@ class Places {
   }
 
   /**
-   * Adds a file. Returns its index.
+   * Adds a file. Returns its index. Called by sources.js.
    * @param {Source|OriginalFile|LibraryPart} file
    */
   addFile(file) {
@@ -48,7 +48,7 @@ class Places {
   }
 
   /**
-   * Adds a site. Returns its number.
+   * Adds a site. Returns its number. Called by source.js.
    * @param {Source} source
    * @param {number} offset
    * @param {About|undefined} about
@@ -59,7 +59,7 @@ class Places {
   }
 
   /**
-   * A place in a file, or, of a bundle with a source map, in the file that it was made from. A library in a file is a file of its own.
+   * A place in a file, or, of a bundle with a source map, in the file that it was made from. A library in a file is a file of its own. Called by sources.js.
    * @param {Source} source
    * @param {{line: number, column: number}} position
    * @returns {Place}
@@ -105,7 +105,7 @@ class Places {
   }
 
   /**
-   * The name of the function around a place, or ''.
+   * The name of the function around a place, or ''. Called by sources.js.
    * @param {Place} place
    */
   functionAt([file, line, column]) {
@@ -113,7 +113,7 @@ class Places {
   }
 
   /**
-   * The place of a site.
+   * The place of a site. Called by sources.js.
    * @param {number} site
    * @returns {Place}
    */
@@ -135,7 +135,7 @@ class Places {
   }
 
   /**
-   * What a site says of an object or a scope.
+   * What a site says of an object or a scope. Called by sources.js.
    * @param {number} site
    * @returns {{text?: string, scope?: string}}
    */

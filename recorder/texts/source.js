@@ -102,7 +102,7 @@ class Source {
   }
 
   /**
-   * Options of `instrument` for code at an offset of this text.
+   * Options of `instrument` for code at an offset of this text. Called by instrument/page.js and sources.js.
    * @param {'script'|'module'|'handler'|'address'} kind
    * @param {number} offset
    * @param {{wholeAtStart?: boolean, isFile?: boolean}} how `wholeAtStart`: all places in the code are its start
@@ -128,7 +128,7 @@ class Source {
   }
 
   /**
-   * The name of the library in which an offset is, or ''.
+   * The name of the library in which an offset is, or ''. Called by places.js.
    * @param {number} offset
    */
   libraryAt(offset) {
@@ -145,7 +145,7 @@ class Source {
   }
 
   /**
-   * The name of the innermost function that has one and contains a place, or ''.
+   * The name of the innermost function that has one and contains a place, or ''. Called by places.js.
    * @param {number} line
    * @param {number} column
    */
@@ -160,7 +160,7 @@ class Source {
   }
 
   /**
-   * Uses a source map for all places from now on.
+   * Uses a source map for all places from now on. Called by sources.js.
    * @param {AnyMap|null} map
    */
   useMap(map) {
@@ -168,7 +168,7 @@ class Source {
   }
 
   /**
-   * The name that an offset of a bundle had before the bundle was made.
+   * The name that an offset of a bundle had before the bundle was made. Called by places.js.
    * @param {number} offset
    * @returns {string|undefined}
    */
@@ -178,7 +178,7 @@ class Source {
   }
 
   /**
-   * Notes a start tag, with the attributes by which its element is known.
+   * Notes a start tag, with the attributes by which its element is known. Called by instrument/page.js.
    * @param {string} name
    * @param {{id?: string, source?: string}} attributes
    * @param {number} offset
@@ -190,7 +190,7 @@ class Source {
   }
 
   /**
-   * Notes a script of a page with its marks, by the page's own text: a content policy can allow it by its hash.
+   * Notes a script of a page with its marks, by the page's own text: a content policy can allow it by its hash. Called by instrument/page.js.
    * @param {string} own the text of an inline script or a handler attribute
    * @param {string} marked the text with marks
    */
@@ -199,7 +199,7 @@ class Source {
   }
 
   /**
-   * Counts something that the copy lacks.
+   * Counts something that the copy lacks. Called by instrument/page.js.
    * @param {string} what
    */
   drop(what) {
@@ -207,7 +207,7 @@ class Source {
   }
 
   /**
-   * Notes that code stays as it is.
+   * Notes that code stays as it is. Called by instrument/page.js and sources.js.
    * @param {import('./unmarked.js').Unmarkable} what
    * @param {import('../instrument/syntax/types').Fault} fault
    * @param {number} start where the code is
@@ -218,7 +218,7 @@ class Source {
   }
 
   /**
-   * Counts code that stays as it is, and that could be read.
+   * Counts code that stays as it is, and that could be read. Called by instrument/page.js.
    * @param {string} what
    */
   leave(what) {
@@ -226,7 +226,7 @@ class Source {
   }
 
   /**
-   * Makes a copy for the browser.
+   * Makes a copy for the browser. Called by sources.js.
    * @param {Edit[]} edits
    */
   edit(edits) {
@@ -237,7 +237,8 @@ class Source {
 }
 
 /**
- * A library in a text with other code, as a file of its own: it has the address and the places of the text. `library` is the name of the library's file.
+ * A library in a text with other code, as a file of its own: it has the address and the places of the text. `library` is the name of the library's file. Made
+ * by places.js.
  */
 class LibraryPart {
   /**
@@ -261,7 +262,7 @@ class LibraryPart {
   }
 }
 
-/** A file that a bundle was made from. Its functions are those of the bundle. */
+/** A file that a bundle was made from. Its functions are those of the bundle. Made by places.js. */
 class OriginalFile {
   /**
    * @param {string} address

@@ -69,7 +69,7 @@ class Sources {
   }
 
   /**
-   * Counts something for `losses.js`.
+   * Counts something for `losses.js`. Called by browser/responses/copies.js and source.js.
    * @param {Map<string, number>} counts
    * @param {string} what
    */
@@ -80,7 +80,7 @@ class Sources {
   // ---- texts
 
   /**
-   * The text of a page as the browser gets it.
+   * The text of a page as the browser gets it. Called by browser/responses/copies.js and instrument/page.js.
    * @param {string} address
    * @param {string} html
    * @param {import('./source.js').Insertions} [insertions] what a replay inserts
@@ -96,7 +96,7 @@ class Sources {
   }
 
   /**
-   * The text of a script as the browser gets it. A script that is not JavaScript stays as it is.
+   * The text of a script as the browser gets it. A script that is not JavaScript stays as it is. Called by browser/responses/copies.js and instrument/ahead.js.
    * @param {string} address
    * @param {string} code
    */
@@ -137,7 +137,7 @@ class Sources {
   // ---- source maps
 
   /**
-   * Takes note of what the response of a script says about its source map.
+   * Takes note of what the response of a script says about its source map. Called by browser/responses/copies.js.
    * @param {string} address
    * @param {string} map
    */
@@ -147,7 +147,8 @@ class Sources {
   }
 
   /**
-   * Reads the source maps of the scripts that name one. Two runs that end at the same time wait for one reading.
+   * Reads the source maps of the scripts that name one. Two runs that end at the same time wait for one reading. Called by driven/load.js and
+   * recording/session.js.
    * @param {(address: string, script: string) => Promise<string|null>} read
    */
   async readMaps(read) {
@@ -179,7 +180,7 @@ class Sources {
   }
 
   /**
-   * The place of a site.
+   * The place of a site. Called by trace/names.js.
    * @param {number} site
    */
   placeOfSite(site) {
@@ -187,7 +188,7 @@ class Sources {
   }
 
   /**
-   * What a mark says about its site, as the text of its object.
+   * What a mark says about its site, as the text of its object. Called by trace/names.js.
    * @param {number} site
    */
   aboutSite(site) {
@@ -195,7 +196,7 @@ class Sources {
   }
 
   /**
-   * Whether a place is in a library's file.
+   * Whether a place is in a library's file. Called by recording/files.js.
    * @param {string|undefined} place
    * @param {RegExp|null} pattern
    */
@@ -204,7 +205,7 @@ class Sources {
   }
 
   /**
-   * The copy of the text at an address that the browser got in this run.
+   * The copy of the text at an address that the browser got in this run. Called by driven/asked.js.
    * @param {string} address
    * @returns {{source: Source, copy: EditedText}|null}
    */
@@ -215,7 +216,7 @@ class Sources {
   }
 
   /**
-   * The place of a position in the browser's copy, or null if the text has no marks.
+   * The place of a position in the browser's copy, or null if the text has no marks. Called by trace/names.js.
    * @param {string} address
    * @param {number} line
    * @param {number} column
@@ -227,7 +228,7 @@ class Sources {
   }
 
   /**
-   * The text of a position in the browser's copy, the offset in it, and what is known of its calls that failed.
+   * The text of a position in the browser's copy, the offset in it, and what is known of its calls that failed. Called by recording/error-text.js.
    * @param {string} address
    * @param {number} line
    * @param {number} column

@@ -24,7 +24,7 @@ class Unmarked {
   }
 
   /**
-   * A script or a handler attribute stays as it is.
+   * A script or a handler attribute stays as it is. Called by source.js.
    * @param {Unmarkable} what
    * @param {Fault} fault
    * @param {Place} place
@@ -33,7 +33,7 @@ class Unmarked {
     this.list.push({ what: `${what} ${WORDS[kind]}`, address: shown(address), line, column, message: shown(message) });
   }
 
-  /** A line for each kind, with its count and its first places. */
+  /** A line for each kind, with its count and its first places. Called by losses.js. */
   lines() {
     return [...new Set(this.list.map(({ what }) => what))].map((kind) => {
       const all = this.list.filter(({ what }) => what === kind);

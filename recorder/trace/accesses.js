@@ -24,7 +24,7 @@ const OF_PAGE = new Set(['at', 'in', 'same']);
 const counted = (number, what) => `${number} ${what}${number === 1 ? '' : what.endsWith('s') ? 'es' : 's'}`;
 
 /**
- * That these are left out is a choice: the line says what shows them.
+ * That these are left out is a choice: the line says what shows them. Called by list/outputs.js and view/html.js.
  * @param {{accesses: number, objects: number}} left
  */
 function librariesInWords({ accesses, objects }) {
@@ -165,7 +165,7 @@ class Accesses {
 
   // ---- the whole recording
 
-  /** The log with all accesses, each in its own place: once in each action, as it was first. */
+  /** The log with all accesses, each in its own place: once in each action, as it was first. Called by recording/files.js. */
   whole() {
     const same = this.sameWrites();
     /** @type {Entry[]} */
@@ -200,13 +200,13 @@ class Accesses {
     return same;
   }
 
-  /** How much only libraries touch, or undefined if there is nothing. */
+  /** How much only libraries touch, or undefined if there is nothing. Called by recording/files.js. */
   libraries() {
     const { accesses, objects } = this.ofLibraries;
     return accesses ? { accesses, objects: objects.size } : undefined;
   }
 
-  /** What was left out, as lines. */
+  /** What was left out, as lines. Called by recording/files.js. */
   lines() {
     const libraries = this.libraries();
     return [...[...this.leftOut].map(([why, number]) => `${why}, left out: ${number}`), ...(libraries ? [librariesInWords(libraries)] : [])];

@@ -85,7 +85,7 @@ class Intake {
   }
 
   /**
-   * Takes the lines of a batch. Called as the page sends it.
+   * Takes the lines of a batch. Called as the page sends it. Called by driven/load.js and recording/session.js.
    * @param {string} batch
    */
   take(batch) {

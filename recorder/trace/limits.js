@@ -1,6 +1,6 @@
 'use strict';
-// What the analyzer can't take is left out, so that the rest is analyzed: locations with too many accesses or pairs, and records beyond the limits. If there
-// are too many, they are dropped and counted.
+// What the analyzer can't take of a trace that is too big is left out, so that the rest is analyzed: locations with too many accesses or pairs, and records
+// beyond the limits. If there are too many, they are dropped and counted.
 
 const { BEGINS } = require('./records.js');
 const { wordOf } = require('./intake.js');
@@ -56,7 +56,8 @@ class Size {
 }
 
 /**
- * How many accesses each location has, and candidate pairs: two accesses of different actions, at least one of them a write (docs/report.md).
+ * How many accesses each location has, and candidate pairs: two accesses of different actions, at least one of them a write (docs/report.md). Called by
+ * races/within-limits.js.
  * @param {string[]} lines the records of a trace
  * @returns {LocationSize[]} those with the most pairs first
  */
@@ -77,6 +78,7 @@ function sizesOf(lines) {
 }
 
 /**
+ * Called by races/within-limits.js.
  * @param {LocationSize[]} sizes
  * @param {'accesses'|'pairs'} what
  */
@@ -101,7 +103,7 @@ function tooLarge(sizes, what, most) {
 }
 
 /**
- * The locations that a trace can't have, the largest first.
+ * The locations that a trace can't have, the largest first. Called by races/within-limits.js and recording/files.js.
  * @param {string[]} lines
  * @returns {LocationSize[]}
  */
@@ -113,7 +115,7 @@ function beyond(lines, { mostPairs = MOST_PAIRS, mostAccesses = MOST_ACCESSES } 
 }
 
 /**
- * Whether a line is an access to one of some locations.
+ * Whether a line is an access to one of some locations. Called by races/within-limits.js and recording/files.js.
  * @param {string} line
  * @param {Set<string>} locations
  */
@@ -138,7 +140,7 @@ function usedElements(records) {
 /**
  * Leaves out parse steps of plain elements in which nothing happens and that nothing names, from the first on, until the trace
  * has no more actions than it may have. A parse step without accesses gives no race, and its neighbors keep their order. What is still
- * beyond a limit is cut off at the end.
+ * beyond a limit is cut off at the end. Called by recording/files.js.
  * @template {{text: string}} R
  * @param {R[]} all
  * @returns {{records: R[], leftOut: number, cut: number}}

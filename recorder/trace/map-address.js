@@ -32,7 +32,7 @@ function namedIn(line) {
 }
 
 /**
- * The address of a script's source map, or null.
+ * The address of a script's source map, or null. Called by source-map.js.
  * @param {string} text
  * @param {string} address of the script
  * @param {string} named by its response, which counts before the text
@@ -52,7 +52,7 @@ function addressOfMap(text, address, named = '') {
 }
 
 /**
- * The text of a map that is in its own address; null if the address is another one.
+ * The text of a map that is in its own address; null if the address is another one. Called by source-map.js.
  * @param {string} address
  */
 function textInAddress(address) {

@@ -1,5 +1,5 @@
 'use strict';
-// A file as OUT.names.json has it: its address, and as much of its text as a reader may want.
+// A file as OUT.names.json has it: its address, and as much of its text as a reader may want: the size of a long one is limited.
 
 const { fileAddress } = require('../browser/folder.js');
 const { splitLines } = require('../common/lines.js');
@@ -27,6 +27,7 @@ function linesAround(text, numbers) {
 }
 
 /**
+ * A file of OUT.names.json, with its whole text if that is short, else with the lines around places. Called by names.js.
  * @param {{address: string, text: string, library?: string}} file `library` is set if it stands for a part of a file
  * @param {Set<number>|undefined} lines those that have a place; undefined if there is none
  * @param {boolean} isLibrary

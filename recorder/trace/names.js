@@ -167,7 +167,7 @@ class Names {
   }
 
   /**
-   * Takes note of the places of all lines.
+   * Takes note of the places of all lines. Called by recording/files.js.
    * @param {SpelledEntry[]} records they begin with line 2
    * @param {SpelledEntry[]} all also those that the limits leave out: each element of the parser has a tag of its own
    */
@@ -280,7 +280,7 @@ class Names {
   }
 
   /**
-   * The text of OUT.names.json.
+   * The text of OUT.names.json. Called by recording/files.js and replay/runs.js.
    * @param {{[member: string]: unknown}} facts of the recording
    */
   toJson(facts) {

@@ -6,7 +6,7 @@
 /** @typedef {{text: string, place?: string, found?: string, stack?: string}} Entry */
 
 /**
- * The log with a dispatch in the place of each point that a note names, and with actions counted again.
+ * The log with a dispatch in the place of each point that a note names, and with actions counted again. Called by intake.js.
  * @param {Entry[]} log
  * @param {Set<string>} begins the words that begin an action
  * @returns {Entry[]}

@@ -198,7 +198,7 @@ function checkLength(maps) {
 }
 
 /**
- * The source map of a script, or null if it names none, or none can be read: then the places in the bundle are used.
+ * The source map of a script, or null if it names none, or none can be read: then the places in the bundle are used. Called by texts/sources.js.
  * @param {string} text
  * @param {string} address
  * @param {(address: string) => Promise<string|null>} read

@@ -97,7 +97,7 @@ class Spelling {
     }));
   }
 
-  /** The records, each with its place; the header and `end` are not among them. */
+  /** The records, each with its place; the header and `end` are not among them. Called by recording/files.js. */
   records() {
     this.out = [];
     this.entries.forEach((entry) => this.spell(entry));

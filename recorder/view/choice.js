@@ -21,7 +21,7 @@ const MOST_FIRST_GROUPS = 20;
 
 /**
  * The races that are shown while there is room: of each problem the first one and those of its first groups, then those of the other groups, then
- * the others of all groups.
+ * the others of all groups. Called by model.js.
  * @param {Model} model
  * @param {Listing} listing
  */

@@ -42,7 +42,7 @@ class Excerpts {
   }
 
   /**
-   * Adds the lines around a place.
+   * Adds the lines around a place. Called by model.js.
    * @param {Place|null} place
    * @returns {{key: string|null, added: unknown[]}} the key of the excerpt, and what it adds to the model
    */

@@ -105,7 +105,7 @@ function partsOfPage() {
 }
 
 /**
- * The HTML of a view: its model is in it as JSON, beside its style and its script.
+ * The HTML of a view: its model is in it as JSON, beside its style and its script. Called by view.js.
  * @param {ViewModel} model
  */
 function renderPage(model) {

@@ -20,7 +20,7 @@ function toldOf(listing, problem, others) {
 }
 
 /**
- * How many lines there are, and how many of what is known.
+ * How many lines there are, and how many of what is known. Called by model.js.
  * @param {{isKnown: boolean}[]} lines
  * @returns {{problems: number, known?: number}}
  */
@@ -30,7 +30,7 @@ function countsOf(lines) {
 }
 
 /**
- * The lines of which the view has a problem.
+ * The lines of which the view has a problem. Called by model.js.
  * @param {Listing} listing
  * @param {ShownProblem[]} problems
  * @returns {ShownLine[]}
@@ -43,7 +43,7 @@ function linesOf(listing, problems) {
 
 /**
  * A model with the lines of the list as that is after replays, which move problems and add what they found. The list can be one of several runs; the model is
- * that of the first.
+ * that of the first. Called by replay-command.js.
  * @template {Pick<import('./types').ViewModel, 'totals'|'problems'|'listed'>} M
  * @param {M} model
  * @param {Listing} listing

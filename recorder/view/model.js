@@ -55,7 +55,7 @@ class Model {
 
   /**
    * The pairs of actions of which the view shows why they are ordered: what the first race of each group comes from, the largest group first, and the
-   * ways from the first action to each other one; the last ones first, since a way to these leads over others.
+   * ways from the first action to each other one; the last ones first, since a way to these leads over others. Called by view.js.
    * @returns {[number, number][]}
    */
   pairsToExplain() {
@@ -64,7 +64,7 @@ class Model {
   }
 
   /**
-   * The ways to both actions of races.
+   * The ways to both actions of races. Called by view.js.
    * @param {number[]} races
    * @returns {[number, number][]}
    */
@@ -77,7 +77,7 @@ class Model {
   }
 
   /**
-   * Builds the model, with so many links as there is room for.
+   * Builds the model, with so many links as there is room for. Called by view.js.
    * @param {import('./types').Link[]} links those that the program printed
    * @param {Listing} listing
    */
@@ -190,7 +190,7 @@ class Model {
   // ---- races
 
   /**
-   * A race as the view has it, in the words of the list.
+   * A race as the view has it, in the words of the list. Called by choice.js.
    * @param {Race} race
    * @param {number} index
    * @param {number} problem the index of the one in whose line it is

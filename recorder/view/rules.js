@@ -6,7 +6,10 @@ const format = require('../trace/format.json');
 /** @type {{[rule: number]: string}} */
 const RULES = Object.fromEntries(format.rules.map(({ number, words }) => [number, words]));
 
-/** @param {number} number */
+/**
+ * Called by why.js.
+ * @param {number} number
+ */
 const ruleInWords = (number) => (RULES[number] ? `rule ${number}: ${RULES[number]}` : `rule ${number}`);
 
 module.exports = { RULES, ruleInWords };

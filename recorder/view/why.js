@@ -9,7 +9,7 @@ const { ruleInWords } = require('./rules.js');
 const { Words } = require('../races/words.js');
 
 /**
- * The lines that explain why one action comes before another.
+ * The lines that explain why one action comes before another. Called by view.js.
  * @param {string} traceFile
  * @param {import('../list/types').Names} names
  * @param {number} from

@@ -12,7 +12,7 @@ const { findAll, isShown } = require('./selectors.js');
  */
 
 /**
- * Whether what is typed into an element is a secret.
+ * Whether what is typed into an element is a secret. Called by browser/user-steps.js.
  * @param {Where} where
  */
 function isSecretField(where) {
@@ -21,7 +21,7 @@ function isSecretField(where) {
 }
 
 /**
- * Why an act has no target. `seconds` is for how long it was searched.
+ * Why an act has no target. `seconds` is for how long it was searched. Called by browser/user-steps.js, driven/flow-recorder.js and recording/acts.js.
  * @param {Where} where
  * @param {number} seconds
  */
@@ -34,7 +34,7 @@ function whyNoTarget(where, seconds) {
 }
 
 /**
- * Gives the focus to an element. Returns whether it has it.
+ * Gives the focus to an element. Returns whether it has it. Called by browser/user-steps.js.
  * @param {Where} where
  */
 function focusAt(where) {
@@ -46,7 +46,7 @@ function focusAt(where) {
 
 /**
  * How an option of a list is chosen: in an open list it is clicked; in another one it is so many keys from the first one. Null if there is no such list, and
- * no numbers if it has no such option.
+ * no numbers if it has no such option. Called by browser/user-steps.js.
  * @param {Where} where
  * @param {string} wanted its value or its text
  * @returns {{keys: number|null, point: Point|null}|null}
@@ -67,6 +67,7 @@ function findOption(where, wanted) {
 
 /**
  * Prepares a field for another value: what is in it is selected, so that what is typed takes its place. A field that takes no letters gets the value at once.
+ * Called by browser/user-steps.js.
  * @param {Where} where
  * @param {string} value
  * @returns {'list'|'letters'|'done'|'none'}
@@ -90,7 +91,7 @@ function prepareField(where, value) {
 }
 
 /**
- * How far a user scrolls, and where the pointer is meanwhile: an element to a position in it, or the window.
+ * How far a user scrolls, and where the pointer is meanwhile: an element to a position in it, or the window. Called by browser/user-steps.js.
  * @param {Where|null} where
  * @param {number} x
  * @param {number} y
@@ -106,7 +107,7 @@ function scrollBy(where, x, y) {
 }
 
 /**
- * Whether so many elements are there, with these attributes and properties.
+ * Whether so many elements are there, with these attributes and properties. Called by browser/user-steps.js.
  * @param {Where} where
  * @param {{operator?: '>='|'=='|'<=', count?: number, visible?: boolean, attributes?: {[name: string]: string}, properties?: object}} wanted
  */

@@ -61,7 +61,7 @@ CHARACTERS.set(' ', { key: /** @type {Key} */ (NAMED.get('Space')), isShifted: f
 CHARACTERS.set('\n', { key: /** @type {Key} */ (NAMED.get('Enter')), isShifted: false });
 
 /**
- * What a user presses for a character, or null if the keyboard has no key for it.
+ * What a user presses for a character, or null if the keyboard has no key for it. Called by browser/user.js.
  * @param {string} character
  * @returns {Chord|null}
  */
@@ -85,7 +85,7 @@ function chordOfHeld(name, modifiers) {
 }
 
 /**
- * What the name of a key means, as `a`, `Home`, `Control+A` or `Shift+Tab`; null if there is no such key.
+ * What the name of a key means, as `a`, `Home`, `Control+A` or `Shift+Tab`; null if there is no such key. Called by browser/user-steps.js.
  * @param {string} name
  * @returns {Chord|null}
  */
@@ -106,7 +106,7 @@ function chordOf(name) {
 const isKey = (name) => chordOf(name) !== null || [...name].length === 1;
 
 /**
- * The calls of the protocol that press and release a chord, the modifier keys around the key as a user does.
+ * The calls of the protocol that press and release a chord, the modifier keys around the key as a user does. Called by browser/user.js.
  * @param {Chord} chord
  * @returns {import('../protocol.js').ProtocolObject[]} parameters of Input.dispatchKeyEvent
  */
@@ -128,7 +128,7 @@ function eventsOf({ key, modifiers }) {
 }
 
 /**
- * The call of the protocol that presses or releases one key, while others are held; null if there is no such key.
+ * The call of the protocol that presses or releases one key, while others are held; null if there is no such key. Called by browser/user.js.
  * @param {string} name
  * @param {Set<string>} held the modifier keys that are held
  * @param {boolean} isDown
@@ -144,11 +144,14 @@ function halfOf(name, held, isDown) {
   return { type: isText ? 'keyDown' : isDown ? 'rawKeyDown' : 'keyUp', ...fields, text: isText ? key.text : undefined };
 }
 
-/** @param {string} name */
+/**
+ * Called by browser/user.js.
+ * @param {string} name
+ */
 const isModifier = (name) => MODIFIERS.has(name);
 
 /**
- * The modifier keys that are held, as the protocol has them.
+ * The modifier keys that are held, as the protocol has them. Called by browser/user.js.
  * @param {Set<string>} held
  */
 const bitsOf = (held) => [...held].reduce((all, name) => all | (MODIFIERS.get(name)?.bit || 0), 0);

@@ -45,6 +45,7 @@ function elementsIn(root) {
 }
 
 /**
+ * Whether a text is the wanted one: all of it, in any case, or a part of it; or a pattern in it.
  * @param {string} text
  * @param {string} wanted
  * @param {Fit} fit
@@ -60,7 +61,10 @@ function fitsText(text, wanted, fit) {
   return fit === 'same' ? text.toLowerCase() === all.toLowerCase() : text.toLowerCase().includes(all.toLowerCase());
 }
 
-/** @param {Element} element */
+/**
+ * Called by fields.js.
+ * @param {Element} element
+ */
 function isShown(element) {
   const { width, height } = element.getBoundingClientRect();
   return width >= 1 && height >= 1 && getComputedStyle(element).visibility === 'visible';
@@ -161,7 +165,7 @@ function byPart(root, part) {
 }
 
 /**
- * The elements of the first alternative that has one. Throws if no alternative is valid.
+ * The elements of the first alternative that has one. Throws if no alternative is valid. Called by fields.js, targets.js and browser/user-steps.js.
  * @param {Where} where
  * @returns {Element[]}
  */
@@ -196,7 +200,7 @@ const SENT = [plain, elementsIn, fitsText, isShown, textOf, nameOf, hasRole, inn
 const IN_PAGE = `const ROLES = ${JSON.stringify(ROLES)}, NO_TEXT = ${JSON.stringify(NO_TEXT)};\n${SENT.join('\n')}`;
 
 /**
- * The text of a call of a function that runs in the page and uses functions of this file.
+ * The text of a call of a function that runs in the page and uses functions of this file. Called by browser/user-steps.js and browser/user.js.
  * @template {unknown[]} P
  * @param {(...parameters: P) => unknown} found
  * @param {P} parameters
@@ -207,6 +211,7 @@ function callOf(found, parameters) {
 }
 
 /**
+ * Called by browser/user.js.
  * @param {string} selector
  * @returns {Where}
  */

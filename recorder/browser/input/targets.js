@@ -13,7 +13,8 @@ const { findAll } = require('./selectors.js');
  */
 
 /**
- * Where the first element that a selector means can be clicked, or null. `inside` is the place in it that was clicked before.
+ * Where the first element that a selector means can be clicked, or null. `inside` is the place in it that was clicked before. Called by browser/user-steps.js
+ * and browser/user.js.
  * @param {Where} where
  * @param {Point|null} [inside]
  * @returns {Point|null}
@@ -47,6 +48,7 @@ function findTarget(where, inside) {
 
 /**
  * One of the things that a user may click, by the seed: first what reacts in view, then what is out of view, which is scrolled to; links to other pages last.
+ * Called by browser/user.js.
  * @param {number} seed
  * @param {string|null} avoided the source of a regular expression: what has it in its text or in its names is not clicked
  * @param {string[]} left the addresses of links and the positions of what led to another page: it is not clicked again

@@ -65,7 +65,7 @@ class Copies {
   }
 
   /**
-   * Answers a request of a replay as a server has answered it.
+   * Answers a request of a replay as a server has answered it. Called by keep-answers.js.
    * @param {Paused} event
    * @param {number} status
    * @param {Header[]} headers
@@ -112,7 +112,7 @@ class Copies {
   }
 
   /**
-   * Answers a request; pages and scripts are instrumented before. One that can not be is answered with its own bytes.
+   * Answers a request; pages and scripts are instrumented before. One that can not be is answered with its own bytes. Called by folder-answers.js.
    * @param {Paused} event
    * @param {number} status
    * @param {Header[]} headers
@@ -192,6 +192,7 @@ function withoutIntegrity(sources, headers) {
 }
 
 /**
+ * Called by browser/responses.js.
  * @param {Texts} sources
  * @param {unknown} fault
  */

@@ -6,7 +6,7 @@
  * @typedef {import('./paused.js').Holds} Holds
  */
 
-/** Takes note of the requests, and holds the responses: the server has been asked, and has answered. */
+/** Takes note of the requests, and holds the responses: the server has been asked, and has answered. Made by browser/responses.js. */
 class HeldRequests {
   /** @param {Holds} holds */
   constructor(holds) {
@@ -26,7 +26,7 @@ class HeldRequests {
   }
 }
 
-/** Holds a request for a file of the folder, which has no response stage, before it is answered. */
+/** Holds a request for a file of the folder, which has no response stage, before it is answered. Made by browser/responses.js. */
 class HeldFiles {
   /**
    * @param {Holds} holds

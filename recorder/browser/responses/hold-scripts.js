@@ -1,5 +1,6 @@
 'use strict';
-// Scripts and images that a replay has put into a page, so that the page waits: they do nothing, and come when the replay releases them.
+// Scripts and images that a replay has put into a page, so that the parser waits at a place of the page, or its load does: they do nothing, and come when the
+// replay releases them.
 
 const { HOLD_NAME } = require('../content-policy.js');
 
@@ -9,7 +10,10 @@ const { HOLD_NAME } = require('../content-policy.js');
  */
 
 const HOLD_ADDRESS = new RegExp(`/${HOLD_NAME}\\?(\\d+)$`);
-/** @param {string} address */
+/**
+ * Called by network-log.js.
+ * @param {string} address
+ */
 const isHold = (address) => HOLD_ADDRESS.test(address);
 const CODE = '__er.removeHold(document.currentScript)';
 

@@ -1,6 +1,6 @@
 'use strict';
 // Keeps what the servers of a recorded run answer (kept-answers.js), and answers the requests of its replays by it. A replay gets the recorded responses from
-// memory.
+// memory. A request that the recorded run did not make (another address) goes to its server.
 
 const { sleep } = require('../../common/time.js');
 const { bytesOf, hasKeptAnswer, isKept, LARGEST_KEPT } = require('./kept-answers.js');
@@ -15,7 +15,7 @@ const { requestText } = require('../changing.js');
 
 const OF_SERVER = /^https?:/i;
 
-/** Takes note of the answers of servers. */
+/** Takes note of the answers of servers. Made by browser/responses.js. */
 class KeepAnswers {
   /**
    * @param {import('../tab.js').Tab} tab
@@ -86,7 +86,7 @@ class KeepAnswers {
   }
 }
 
-/** Answers the requests that the recorded run made too. */
+/** Answers the requests that the recorded run made too. Made by browser/responses.js. */
 class AnswerAgain {
   /**
    * @param {import('./kept-answers.js').AnswersOfRun} answers

@@ -1,5 +1,6 @@
 'use strict';
-// What a recorded run received, kept for its replays: each of these gets the same bytes after the same time, and no server gets the request again.
+// What a recorded run received, kept for its replays: each of these gets the same bytes after the same time, and no server gets the request again. How much is
+// kept has limits.
 
 const { inAnyRun } = require('../../common/request-address.js');
 
@@ -24,7 +25,7 @@ const OWN_EFFECT = /^(set-cookie|clear-site-data|refresh|content-range)$/i;
 const keyOf = ({ request: { method, url }, resourceType }) => `${method} ${resourceType} ${inAnyRun(url)}`;
 
 /**
- * Whether an answer to a request is kept.
+ * Whether an answer to a request is kept. Called by folder-answers.js and keep-answers.js.
  * @param {Paused} event
  */
 function isKept({ request: { method, headers = {} }, resourceType }) {
@@ -32,7 +33,7 @@ function isKept({ request: { method, headers = {} }, resourceType }) {
 }
 
 /**
- * Whether an answer of a server is kept: no step to another address, and nothing that the browser does besides.
+ * Whether an answer of a server is kept: no step to another address, and nothing that the browser does besides. Called by keep-answers.js.
  * @param {Paused} event of a response
  */
 function hasKeptAnswer({ responseStatusCode: status = 0, responseHeaders = [] }) {
@@ -98,7 +99,7 @@ class AnswersOfRun {
 }
 
 /**
- * The bytes of a body as the protocol has it; null if it is a text that may have lost some.
+ * The bytes of a body as the protocol has it; null if it is a text that may have lost some. Called by keep-answers.js.
  * @param {{body: string, base64Encoded: boolean}} answer
  * @param {string} type of the content
  */

@@ -1,6 +1,6 @@
 'use strict';
-// What only the page's own origin gets: headers of the user's, and a user's name and password. HTTP basic authentication (`--http-credentials`) and `--header`:
-// no other server gets these credentials.
+// What only the page's own origin gets: headers of the user's, and a user's name and password. HTTP basic authentication (`--http-credentials`) and `--header`,
+// as `Authorization`: no other server, as a CDN, gets these credentials.
 
 const { originOf } = require('../../common/address.js');
 

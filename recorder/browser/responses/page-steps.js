@@ -1,6 +1,6 @@
 'use strict';
 // Steps to another page: the page is recorded that was asked for, also in a replay. If it navigates away, the request is refused, or `leaves` is called.
-// Redirects, links, `location = ..` and reloads.
+// Redirects, submitted forms (as of a login), links, `location = ..` and reloads.
 
 /** @typedef {import('./paused.js').Paused} Paused */
 

@@ -34,10 +34,14 @@
  * @property {(counts: Map<string, number>, what: string) => void} count
  */
 
-/** @param {Paused} event */
+/**
+ * Called by browser/responses.js.
+ * @param {Paused} event
+ */
 const isResponse = (event) => event.responseStatusCode !== undefined || event.responseErrorReason !== undefined;
 
 /**
+ * Called by copies.js and keep-answers.js.
  * @param {Header[]|undefined} headers
  * @param {string} wanted in lower case
  */

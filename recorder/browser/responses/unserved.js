@@ -24,7 +24,8 @@ class Unserved {
   }
 
   /**
-   * Takes note of a request, if it is for a script or a page of a frame, and the folder does not have the file. Returns whether it is.
+   * Takes note of a request, if it is for a script or a page of a frame, and the folder does not have the file. Returns whether it is. Called by
+   * folder-answers.js.
    * @param {Paused} event a request, not for the page itself
    * @param {Pick<Answer, 'status'|'refused'>} answer
    */
@@ -42,13 +43,13 @@ class Unserved {
     return `(${[...names, ...this.files.size > MOST_NAMED ? ['..'] : []].join(', ')})${cure}`;
   }
 
-  /** What is missing, in words for the list, or ''. */
+  /** What is missing, in words for the list, or ''. Called by browser/responses.js. */
   inWords() {
     const { size } = this.files;
     return size ? `${size} file${size > 1 ? 's' : ''} of the page ${size > 1 ? 'were' : 'was'} not served ${this.named()}` : '';
   }
 
-  /** What is missing, as lines of what was not recorded. */
+  /** What is missing, as lines of what was not recorded. Called by browser/responses.js. */
   lines() {
     const { size } = this.files;
     const links = [...this.files.values()].filter((isLink) => isLink).length;

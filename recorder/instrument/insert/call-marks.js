@@ -55,6 +55,7 @@ function borrowedOfArray({ object }) {
  */
 const isValue = (node) => node !== undefined && node.type !== 'SpreadElement';
 
+/** Made by instrument/instrument.js. */
 class CallMarks extends ValueMarks {
   CallExpression(/** @type {CallExpression} */ node, /** @type {Scope} */ scope) {
     const { callee } = node;
@@ -162,6 +163,7 @@ class CallMarks extends ValueMarks {
   }
 
   /**
+   * The arguments of a function of `Object`, `Reflect`, `JSON` or `Array` that reads or writes one of them.
    * @param {Argument[]} args
    * @param {string} name
    * @param {Scope} scope

@@ -18,6 +18,7 @@ const { Marks, LOGICAL } = require('./marks.js');
  * @typedef {import('../walk/expressions').Initialized} Initialized
  */
 
+/** Extended by member-marks.js. */
 class ClosureMarks extends Marks {
   /**
    * @param {string} code
@@ -47,6 +48,7 @@ class ClosureMarks extends Marks {
     return closure?.label ? `${keyword} ${closure.label}=__er.s(${this.site(start, { scope: name })});` : '';
   }
 
+  /** Inserts what gives a scope its number, at its start. Returns what inserts at its end. */
   startScope(/** @type {Scope} */ scope, /** @type {Node} */ node) {
     switch (node.type) {
       case 'FunctionDeclaration': case 'FunctionExpression': case 'ArrowFunctionExpression': return this.startFunction(scope, node);
@@ -75,6 +77,7 @@ class ClosureMarks extends Marks {
     return number ? this.inserter.around(statement, `{${number}`, '}') : nothing;
   }
 
+  /** Inserts this in a function; a body without braces gets them. */
   startFunction(/** @type {Scope} */ scope, /** @type {FunctionNode} */ node) {
     const { body, params, start } = node;
     const number = this.declaration(scope, 'var', start, this.nameOfFunction(node));

@@ -24,6 +24,7 @@ function isAnonymousFunction(/** @type {Node} */ node) {
   return (node.type === 'FunctionExpression' || node.type === 'ClassExpression') && !node.id;
 }
 
+/** Made by statement-marks.js, as its `inserter`. */
 class Inserter {
   /** @param {string} code */
   constructor(code) {
@@ -34,7 +35,7 @@ class Inserter {
   }
 
   /**
-   * Inserts a mark at an offset.
+   * Inserts a mark at an offset. Called by closure-marks.js, marks.js and instrument/instrument.js.
    * @param {number} offset
    * @param {string} text
    */
@@ -44,7 +45,7 @@ class Inserter {
     this.edits.push({ start: offset, end: offset, insert: `${blank}${begin}${text}${end}` });
   }
 
-  /** In a text of its own blanks an empty mark in each function and class shows what its marks are between. */
+  /** In a text of its own blanks an empty mark in each function and class shows what its marks are between. Called by marks.js. */
   noteDelimiters(/** @type {{body: Span}} */ { body }) {
     if (this.delimiters === MARKS.inComments) this.insert(body.start, '');
   }
@@ -61,7 +62,7 @@ class Inserter {
   }
 
   /**
-   * Puts an expression into a call, as its first arguments or after them.
+   * Puts an expression into a call, as its first arguments or after them. Called by call-marks.js, marks.js and member-marks.js.
    * @param {Node} node
    * @param {string} before
    * @param {string} after
@@ -80,7 +81,8 @@ class Inserter {
   }
 
   /**
-   * Puts calls after an expression: `x` becomes `(t=x,calls,t)`. Nothing of the page runs between the first and the last.
+   * Puts calls after an expression: `x` becomes `(t=x,calls,t)`. Nothing of the page runs between the first and the last. Called by closure-marks.js and
+   * marks.js.
    * @param {Span} node
    * @param {string} calls
    */
@@ -102,7 +104,9 @@ class Inserter {
     return this.wrap(node, `${call},`, `${further})`);
   }
 
-  /** A statement may end without a semicolon: one is inserted if another statement follows, which may now start with a bracket. */
+  /**
+   * A statement may end without a semicolon: one is inserted if another statement follows, which may now start with a bracket. Called by statement-marks.js.
+   */
   endStatement(/** @type {Span} */ node) {
     if (this.code.charCodeAt(node.end - 1) !== SEMICOLON && !this.isLastOfBlock(node.end)) this.insert(node.end, ';');
   }
@@ -115,7 +119,7 @@ class Inserter {
   }
 
   /**
-   * The text of a node in the original.
+   * The text of a node in the original. Called by call-marks.js, member-marks.js and value-marks.js.
    * @param {Span} node
    */
   textOf({ start, end }) {
@@ -123,7 +127,7 @@ class Inserter {
   }
 
   /**
-   * The end of the first such token after an offset, if only comments and brackets are between.
+   * The end of the first such token after an offset, if only comments and brackets are between. Called by closure-marks.js.
    * @param {number} offset
    * @param {string} token
    */
@@ -137,7 +141,8 @@ class Inserter {
 }
 
 /**
- * Where the first statement of a function's body can be: after its directives (`'use strict'`). In a script: `startOfRun` of instrument.js.
+ * Where the first statement of a function's body can be: after its directives (`'use strict'`). In a script: `startOfRun` of instrument.js. Called by
+ * closure-marks.js and marks.js.
  * @param {import('../syntax/types').BlockStatement} body
  */
 function startOfStatements({ start, body }) {

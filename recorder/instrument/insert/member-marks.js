@@ -1,7 +1,7 @@
 'use strict';
 // Marks properties of objects and elements of arrays too. A mark is around the object, the key or the value of an access that stays as it is: `a.b`
 // becomes `call(a).b`, and `a[k]` becomes `a[call(a,k)]`. So what the page's code does, and in which order, does not change: getters, proxies, `this` and
-// errors are its own. Optional chaining (`a?.b`), `super.a`, private members (`#a`), `key in object`, `a[k]++`.
+// errors are its own. Optional chaining (`a?.b`; calls, `a?.m()`: call-marks.js), `super.a`, private members (`#a`), `key in object`, `a[k]++`.
 
 const { quote } = require('../marks/quote.js');
 const { nothing } = require('../walk/walker.js');
@@ -25,7 +25,7 @@ const TOOLS = new Set(['Math', 'JSON', 'Object', 'Array', 'String', 'Number', 'B
 const FRESH = new Set(['Super', 'Literal', 'TemplateLiteral', 'MetaProperty', 'ArrayExpression', 'ObjectExpression', 'FunctionExpression',
   'ArrowFunctionExpression', 'ClassExpression', 'BinaryExpression', 'UpdateExpression', 'UnaryExpression']);
 
-/** The key of a member that is known from the text alone, as it is in a call; else null. */
+/** The key of a member that is known from the text alone, as it is in a call; else null. Called by value-marks.js. */
 function knownKey(/** @type {MemberExpression} */ { computed, property }) {
   if (property.type === 'PrivateIdentifier') return quote(`#${property.name}`);
   if (!computed) return quote(property.type === 'Identifier' ? property.name : '');
@@ -53,6 +53,7 @@ function mayEndBefore(node) {
  */
 const isNamedSuper = (node) => node.type === 'MemberExpression' && node.object.type === 'Super' && !node.computed;
 
+/** Extended by value-marks.js. */
 class MemberMarks extends ClosureMarks {
   /**
    * Whether evaluating an expression twice is as good as once.

@@ -1,7 +1,7 @@
 'use strict';
-// What a pattern (destructuring) takes of a value, as a text of JSON that the page's helper reads (page/objects/patterns.js): `["{","a",0,"b",["[",0,0]]` of A
-// read by destructuring, with its defaults and rest.
-// `{a, b: [c, d]}`. After "{" come a key and what its value is taken apart into, or 0; after "[" that of each item, or null for none; "..." takes the rest.
+// What a pattern (destructuring) takes of a value, as a text of JSON that the page's helper reads (page/objects/patterns.js): `["{","a",0,"b",["[",0,0]]` of
+// `{a, b: [c, d]}`. A read by destructuring, with its defaults and rest. After "{" come a key and what its value is taken apart into, or 0; after "[" that of
+// each item, or null for none; "..." takes the rest. Used by value-marks.js.
 
 const { quoteList } = require('../marks/quote.js');
 

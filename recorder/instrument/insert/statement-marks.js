@@ -10,6 +10,7 @@ const { Walker } = require('../walk/walker.js');
  * @typedef {import('../syntax/types').Node} Node
  */
 
+/** Extended by marks.js. */
 class StatementMarks extends Walker {
   /**
    * @param {string} code

@@ -30,6 +30,7 @@ function declaresInBody({ body }, name) {
   return names.has(name);
 }
 
+/** Extended by call-marks.js. */
 class ValueMarks extends MemberMarks {
   /** The write of a property is reported with its value if other code may run before it comes, or the object is a variable. */
   assignMember(/** @type {AssignmentExpression} */ node, /** @type {MemberExpression} */ left, /** @type {Scope} */ scope) {

@@ -40,6 +40,7 @@ function noteWindowNames(/** @type {CallExpression} */ { callee, arguments: args
   called.windowNames = new Set(called.params.flatMap((parameter, k) => (parameter.type === 'Identifier' && isWindow(given[k], scope) ? [parameter.name] : [])));
 }
 
+/** Made by instrument/instrument.js. */
 class WindowMarks extends Marks {
   CallExpression(/** @type {CallExpression} */ node, /** @type {Scope} */ scope) {
     noteWindowNames(node, scope);

@@ -16,7 +16,7 @@ const MARKS = {
 };
 
 /**
- * What the marks of a text are between.
+ * What the marks of a text are between. Called by instrument/insert/inserter.js.
  * @param {string} text
  * @returns {Delimiters}
  */

@@ -20,7 +20,7 @@ const quoteAny = (value) => JSON.stringify(value).replace(/\*\/|<[/!]/g, ([first
 const quote = (value) => (typeof value === 'string' && NAME.test(value) ? `"${value}"` : quoteAny(value));
 
 /**
- * The same for a text that has many quotation marks.
+ * The same for a text that has many quotation marks. Called by instrument/insert/shapes.js.
  * @param {unknown[]} list
  */
 const quoteList = (list) => `'${quote(list).replace(/'/g, "\\'")}'`;

@@ -80,13 +80,14 @@ const KEYS = {
 };
 
 /**
- * The keys under which a node may have children.
+ * The keys under which a node may have children. Called by library-parts.js and instrument/walk/expressions.js.
  * @param {{type: string}} node
  * @returns {readonly string[]}
  */
 const keysOf = (node) => KEYS[/** @type {Node['type']} */ (node.type)];
 
 /**
+ * Called by library-parts.js and instrument/walk/expressions.js.
  * @param {Node} node
  * @param {string} key one of its type
  * @returns {Child}
@@ -111,13 +112,15 @@ const FUNCTIONS = new Set(['FunctionDeclaration', 'FunctionExpression', 'ArrowFu
 const RUNS = new Set(['CallExpression', 'NewExpression', 'TaggedTemplateExpression', 'AwaitExpression', 'YieldExpression', 'ImportExpression']);
 
 /**
+ * Called by instrument/insert/marks.js, instrument/insert/window-marks.js and library-parts.js.
  * @param {Node} node
  * @returns {node is import('./types').FunctionNode}
  */
 const isFunction = (node) => FUNCTIONS.has(node.type);
 
 /**
- * Whether the code of a node may wait, as for a promise; that of the functions in it does not count.
+ * Whether the code of a node may wait, as for a promise; that of the functions in it does not count. Called by instrument/insert/marks.js,
+ * instrument/instrument.js and instrument/walk/walker.js.
  * @param {Node} node
  * @returns {boolean}
  */
@@ -127,7 +130,7 @@ function mayWait(node) {
 }
 
 /**
- * Whether other code may run while an expression is evaluated.
+ * Whether other code may run while an expression is evaluated. Called by instrument/insert/value-marks.js.
  * @param {Node} node
  * @returns {boolean}
  */

@@ -1,5 +1,6 @@
 'use strict';
-// What a module imports and exports: an imported name is a variable of the module that exports it.
+// What a module imports and exports: an imported name is a variable of the module that exports it. instrument.js reads it, for the
+// marks (../walk/variables.js) and for the start of a module's run, which names the modules that run before it.
 
 const { addDeclared } = require('./names.js');
 
@@ -14,6 +15,7 @@ const { addDeclared } = require('./names.js');
  * @property {string[]} wholes the modules of which it passes on all
  */
 
+/** In place of a variable's name: the import is the module as a whole (`import * as a from ..`), and a read of it is no access. */
 const WHOLE = '*';
 
 /**
@@ -29,6 +31,7 @@ function nameInOther(specifier) {
 }
 
 /**
+ * What a module imports.
  * @param {Program} program
  * @returns {Map<string, Imported>} by the name in the module
  */

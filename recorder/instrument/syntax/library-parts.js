@@ -110,7 +110,7 @@ function partsAfterBanners(code, program) {
 }
 
 /**
- * The parts of a text that are known libraries, in their order, and none inside of another one.
+ * The parts of a text that are known libraries, in their order, and none inside of another one. Called by instrument/instrument.js.
  * @param {string} code
  * @param {Program} program
  */

@@ -1,5 +1,5 @@
 'use strict';
-// The names that patterns bind and that statements declare.
+// The names that patterns bind (destructuring, also of parameters) and that statements declare.
 
 /**
  * @typedef {import('./types').Pattern} Pattern
@@ -9,7 +9,7 @@
  */
 
 /**
- * Adds the names that a pattern binds, as `a` and `b` of `{a, x: [b]}`, to a set.
+ * Adds the names that a pattern binds, as `a` and `b` of `{a, x: [b]}`, to a set. Called by scopes.js.
  * @param {Pattern|null} pattern
  * @param {Set<string>} names
  * @returns {void}
@@ -41,6 +41,7 @@ function namesOfPattern(pattern) {
 }
 
 /**
+ * Called by instrument/own-names.js and imports.js.
  * @param {VariableDeclaration} declaration
  * @param {Set<string>} names
  */
@@ -58,7 +59,7 @@ function addHoistedOfAll(statements, names) {
 
 /**
  * Adds the `var` names of a statement, and its functions in blocks, but nothing of inner functions. A `var` is in a statement, and never in an
- * expression.
+ * expression. Called by instrument/own-names.js and scopes.js.
  * @param {Statement|Expression|Pattern|null} statement
  * @param {Set<string>} names
  * @returns {void}
@@ -84,7 +85,7 @@ function addHoisted(statement, names) {
 }
 
 /**
- * Whether a statement declares something for its own block only.
+ * Whether a statement declares something for its own block only. Called by scopes.js.
  * @param {Statement} statement
  */
 function declaresForBlock(statement) {
@@ -93,7 +94,7 @@ function declaresForBlock(statement) {
 }
 
 /**
- * Adds the names that the statements of one block declare for this block only.
+ * Adds the names that the statements of one block declare for this block only. Called by instrument/own-names.js and scopes.js.
  * @param {Statement[]} statements
  * @param {Set<string>} names
  */
@@ -107,7 +108,7 @@ function addLexical(statements, names) {
 }
 
 /**
- * Adds all that the code of a function, or of a class's static block, declares.
+ * Adds all that the code of a function, or of a class's static block, declares. Called by instrument/insert/value-marks.js and scopes.js.
  * @param {Statement[]} statements
  * @param {Set<string>} names
  */

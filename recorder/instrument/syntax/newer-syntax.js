@@ -47,6 +47,7 @@ function declaresAt(code, offset, isHead) {
 const isAssignedCall = (parser, node) => node?.type === 'CallExpression' && !node.optional && !parser.strict;
 
 /**
+ * Called by parse.js.
  * @param {AcornParser} Base
  * @returns {AcornParser}
  */
@@ -74,6 +75,7 @@ const newerSyntax = (Base) => class extends Base {
     super.semicolon();
   }
 
+  /** Reads `with { type: 'json' }`, and leaves it out of the tree. */
   skipAttributes() {
     this.next();
     this.expect(tokTypes.braceL);

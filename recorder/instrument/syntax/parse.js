@@ -40,7 +40,7 @@ function isOther(code) {
 }
 
 /**
- * Why a text is not marked.
+ * Why a text is not marked. Called by instrument/instrument.js.
  * @param {unknown} error of the parser or of the walk
  * @param {string} code
  * @returns {Fault|null} null for an error of the recorder
@@ -53,6 +53,7 @@ function faultOf(error, code) {
 }
 
 /**
+ * Called by instrument/instrument.js.
  * @param {string} code
  * @param {import('./types').KindOfCode} kind
  * @returns {import('./types').Program} fails with a SyntaxError that has the place

@@ -21,7 +21,7 @@ const { addNames, addLexical, addHoisted, addNamesOfCode, declaresForBlock } = r
  * @property {string} label the variable that has the scope's number as it runs; '' where none is marked
  */
 
-/** One scope. A dynamic one (`with`) may have any name. */
+/** One scope. A dynamic one (`with`) may have any name. Made by instrument/walk/walker.js. */
 class Scope {
   /**
    * @param {Scope|null} parent
@@ -101,7 +101,8 @@ class Scope {
   }
 
   /**
-   * The scope that declares a name, or null if none does or a `with` is between.
+   * The scope that declares a name, or null if none does or a `with` is between. Called by instrument/insert/window-marks.js, instrument/walk/closures.js and
+   * instrument/walk/variables.js.
    * @param {string} name
    * @returns {Scope|null}
    */
@@ -176,7 +177,7 @@ function declarationOf(statement) {
 }
 
 /**
- * The scope of the top of a text.
+ * The scope of the top of a text. Called by instrument/instrument.js.
  * @param {import('./types').Program} program
  * @param {import('./types').KindOfCode} kind
  * @returns {Scope}
@@ -192,7 +193,7 @@ function topScope(program, kind) {
 }
 
 /**
- * The scope that a node starts, made when it is first asked for: two walks have the same scopes.
+ * The scope that a node starts, made when it is first asked for: two walks have the same scopes. Called by instrument/walk/walker.js.
  * @template {{scope?: Scope}} T
  * @param {T} node
  * @param {() => Scope} make

@@ -27,6 +27,7 @@ function ownerIn(top, scope, name) {
   return where === 'local' ? scope.ownerOf(name) : null;
 }
 
+/** Made by instrument/instrument.js. */
 class ClosureVariables extends Variables {
   /**
    * @param {import('../syntax/types').Options} options

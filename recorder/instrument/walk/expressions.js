@@ -1,6 +1,6 @@
 'use strict';
-// The walk through expressions, patterns and declarations of acorn's tree: what is visited in which order. Subclasses add scopes (walker.js) and what is
-// done at a node.
+// The walk through expressions, patterns, class fields and declarations of acorn's tree: what is visited in which order. Subclasses add scopes (walker.js) and
+// what is done at a node.
 
 const { keysOf, childAt } = require('../syntax/children.js');
 

@@ -172,7 +172,7 @@ class Look extends Walker {
 }
 
 /**
- * Walks through a program; then its scopes know which variables are marked.
+ * Walks through a program; then its scopes know which variables are marked. Called by instrument/instrument.js.
  * @param {import('../syntax/types').Program} program
  * @param {Scope} top
  * @param {import('./variables').Module|null} module

@@ -1,5 +1,6 @@
 'use strict';
-// The calls that report accesses to variables: which names are global variables of the page, or those of a module.
+// The calls that report accesses to variables: which names are global variables of the page, those of a module, or what it imports; and the call that reports
+// its exports. Closures: closures.js. `undefined`, `arguments` and others are never marked.
 
 const { quote } = require('../marks/quote.js');
 const { WHOLE } = require('../syntax/imports.js');
@@ -40,7 +41,7 @@ class Variables {
 
   /**
    * The call that reports an access to a name, without its last argument (the value that is written) and its bracket; null if the name is none of the
-   * page's global variables.
+   * page's global variables. Called by instrument/insert/closure-marks.js, instrument/insert/marks.js and instrument/instrument.js.
    * @param {Mode} mode
    * @param {string} name
    * @param {Scope} scope
@@ -59,7 +60,7 @@ class Variables {
   }
 
   /**
-   * The same call, whole.
+   * The same call, whole. Called by instrument/insert/closure-marks.js and instrument/insert/marks.js.
    * @param {Mode} mode
    * @param {string} name
    * @param {Scope} scope
@@ -71,7 +72,7 @@ class Variables {
   }
 
   /**
-   * The calls for the writes of names that have their values.
+   * The calls for the writes of names that have their values. Called by instrument/insert/marks.js.
    * @param {string[]} names
    * @param {Scope} scope
    * @param {number} offset
@@ -82,7 +83,7 @@ class Variables {
 
   // ---- modules
 
-  /** What a module declares for its own variables. */
+  /** What a module declares for its own variables. Called by instrument/instrument.js. */
   declareModule() {
     return '';
   }
@@ -100,7 +101,7 @@ class Variables {
     return true;
   }
 
-  /** The call that reports what a module exports. */
+  /** The call that reports what a module exports. Called by instrument/instrument.js. */
   declareExports() {
     if (!this.module) return '';
     const { exported } = this.module;
@@ -134,7 +135,7 @@ class Variables {
   }
 
   /**
-   * The call for `all.n`, where `all` is another module as a whole.
+   * The call for `all.n`, where `all` is another module as a whole. Called by instrument/insert/member-marks.js and instrument/insert/window-marks.js.
    * @param {MemberExpression} member
    * @param {Scope} scope
    */

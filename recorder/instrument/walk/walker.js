@@ -26,7 +26,10 @@ const nothing = () => {};
  */
 const declaresTurns = (head) => head?.type === 'VariableDeclaration' && head.kind !== 'var';
 
-/** @param {ForEachStatement} loop */
+/**
+ * Called by instrument/insert/value-marks.js.
+ * @param {ForEachStatement} loop
+ */
 const patternOfLoop = ({ left }) => (left.type === 'VariableDeclaration' ? left.declarations[0].id : left);
 
 class Walker extends ExpressionWalker {
@@ -93,6 +96,7 @@ class Walker extends ExpressionWalker {
     return this.waited > waited || (this.waits && mayWait(init));
   }
 
+  /** Goes through a function in its own scope. What its parameters access of the scope is not marked: it starts after them. */
   visitFunction(/** @type {FunctionNode} */ node, /** @type {Scope} */ scope) {
     const inner = scopeOf(node, () => Scope.ofFunction(scope, node));
     this.inCode(node.async || node.generator, () => {
@@ -186,6 +190,7 @@ class Walker extends ExpressionWalker {
     });
   }
 
+  /** Goes through a `for (.. of ..)` or `for (.. in ..)`: with `let` and `const` each turn has variables of its own. */
   visitForEach(/** @type {ForEachStatement} */ node, /** @type {Scope} */ scope) {
     const pattern = patternOfLoop(node);
     const hasTurns = declaresTurns(node.left);

@@ -1,6 +1,6 @@
 'use strict';
 // What the trace and its names say of single accesses: their values, and how a variable is used elsewhere in the trace. Whether a value is the same, a flag, a
-// counter, or lazily initialized (a cache that is filled if it is empty).
+// counter, or lazily initialized (a cache that is filled if it is empty). Used by list/looks.js and typed.js.
 
 const { FIRST_MODULE } = require('../../common/numbers.js');
 const { isOfTree } = require('../../races/spelled-locations.js');
@@ -113,7 +113,7 @@ class Accesses {
   }
 
   /**
-   * The accesses to a location, in the order of the trace.
+   * The accesses to a location, in the order of the trace. Called by remaining.js and typed.js.
    * @param {string} location
    */
   of(location) {
@@ -121,7 +121,7 @@ class Accesses {
   }
 
   /**
-   * The lines of the writes to a location.
+   * The lines of the writes to a location. Called by typed.js.
    * @param {string} location
    */
   writesOf(location) {
@@ -144,7 +144,7 @@ class Accesses {
   }
 
   /**
-   * The accesses of an action to a location.
+   * The accesses of an action to a location. Called by typed.js.
    * @param {string} location @param {number} action
    */
   inAction(location, action) {
@@ -158,7 +158,7 @@ class Accesses {
   // ---- values
 
   /**
-   * Whether an access that finds this value finds nothing to use.
+   * Whether an access that finds this value finds nothing to use. Called by list/looks.js and remaining.js.
    * @param {string|undefined} value @param {string} location
    */
   isEmpty(value, location) {
@@ -166,7 +166,7 @@ class Accesses {
   }
 
   /**
-   * Whether a location has nothing to use before it is written in a line: nobody wrote it, or nothing was written.
+   * Whether a location has nothing to use before it is written in a line: nobody wrote it, or nothing was written. Called by list/looks.js.
    * @param {number} line @param {string} location
    */
   isEmptyBefore(line, location) {
@@ -178,7 +178,7 @@ class Accesses {
   }
 
   /**
-   * Whether the values of a race are those of a flag, if they are known; what is written to an object's variable has to be known.
+   * Whether the values of a race are those of a flag, if they are known; what is written to an object's variable has to be known. Called by list/looks.js.
    * @param {import('../types').Race} race
    */
   isFlag({ lines, modes, location }) {
@@ -187,7 +187,7 @@ class Accesses {
   }
 
   /**
-   * Whether both sides write a value that is known to be equal.
+   * Whether both sides write a value that is known to be equal. Called by list/looks.js.
    * @param {import('../types').Race} race
    */
   isSameValue({ lines, modes }) {
@@ -208,7 +208,7 @@ class Accesses {
   }
 
   /**
-   * Whether a side counts a variable, and nothing else: a read is the read of the count.
+   * Whether a side counts a variable, and nothing else: a read is the read of the count. Called by list/looks.js.
    * @param {import('../types').Race} race @param {number} k
    */
   isCount({ lines, modes, location, actions }, k) {
@@ -218,7 +218,8 @@ class Accesses {
   }
 
   /**
-   * Whether a write makes the new value of the old one (`x++`, `x += 1`, `x = x + 1`), so that it keeps what another action wrote.
+   * Whether a write makes the new value of the old one (`x++`, `x += 1`, `x = x + 1`), so that it keeps what another action wrote. Called by list/looks.js and
+   * list/problems.js.
    * @param {number} line @param {number} action @param {string} location
    */
   isUpdate(line, action, location) {
@@ -233,7 +234,7 @@ class Accesses {
   // ---- what else the trace does with a location
 
   /**
-   * Whether code of the same action wrote a location before the read in a line.
+   * Whether code of the same action wrote a location before the read in a line. Called by list/looks.js.
    * @param {string} location @param {number} action @param {number} line
    */
   isWrittenBefore(location, action, line) {
@@ -241,7 +242,7 @@ class Accesses {
   }
 
   /**
-   * Whether a location is written between two lines.
+   * Whether a location is written between two lines. Called by list/looks.js.
    * @param {string} location @param {number} from @param {number} to
    */
   isWrittenBetween(location, from, to) {
@@ -251,7 +252,7 @@ class Accesses {
 
   /**
    * Whether a read is that of a cache: if it finds nothing, the same action writes a value. This is known where it happened, in this action or, at the
-   * same place of the code, in another one.
+   * same place of the code, in another one. Called by list/looks.js.
    * @param {number} line @param {number} action of the read @param {string} location
    */
   isOfCache(line, action, location) {
@@ -274,7 +275,7 @@ class Accesses {
 
   /**
    * Whether several actions write a variable of an object, and none reads what another one wrote: each uses it only in itself. A read before all writes finds
-   * the first value.
+   * the first value. Called by list/looks.js.
    * @param {string} location
    */
   isScratch(location) {

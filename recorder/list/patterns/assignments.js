@@ -83,7 +83,7 @@ function isNamed(text, name) {
 }
 
 /**
- * Whether a write makes the new value of the old one, as its text says: `x++`, `x += 1`, `x = x + 1`.
+ * Whether a write makes the new value of the old one, as its text says: `x++`, `x += 1`, `x = x + 1`. Called by accesses.js.
  * @param {SourceText} sources @param {Place} place
  */
 function isMadeOfOld(sources, place) {
@@ -95,7 +95,7 @@ function isMadeOfOld(sources, place) {
 
 /**
  * Whether a write of a property might read it first, though the trace has no read: the right side has a property of this name, calls something with the
- * object, or goes on after what is known of the text; or the text is not known at all.
+ * object, or goes on after what is known of the text; or the text is not known at all. Called by accesses.js.
  * @param {SourceText} sources @param {Place|undefined} place
  */
 function mayReadOld(sources, place) {

@@ -8,6 +8,7 @@ const { FIRST_FIELD, FIRST_MODULE } = require('../../common/numbers.js');
  * @typedef {import('./accesses.js').Accesses} Accesses
  */
 
+/** Made by list/looks.js, as its `remaining`. */
 class Remaining {
   /**
    * @param {Report} report
@@ -23,7 +24,7 @@ class Remaining {
   }
 
   /**
-   * Whether the action of a read finds something if it comes before the write with which it has a race, or does not read at all then.
+   * Whether the action of a read finds something if it comes before the write with which it has a race, or does not read at all then. Called by list/looks.js.
    * @param {string} location @param {number} writer the action @param {number} reader the action @param {number} read the line
    */
   isFoundWithout(location, writer, reader, read) {

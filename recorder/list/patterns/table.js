@@ -44,6 +44,7 @@ const CHOOSING = new Set(['click', 'dblclick', 'change', 'input', 'submit']);
 const COMES_AGAIN = /^(?:mouse|pointer)(?:over|out|enter|leave|move|rawupdate)$/;
 
 /**
+ * Called by list/looks.js.
  * @param {LookKey} look
  * @param {string} word the first word of the race's location
  * @param {string} event of a handler, else ''
@@ -63,7 +64,7 @@ const RANKS = /** @type {LookKey[]} */ (Object.keys(LOOKS));
 const known = new Map();
 
 /**
- * A pattern with what was seen: one object for all races that have it.
+ * A pattern with what was seen: one object for all races that have it. Called by list/looks.js.
  * @param {LookKey} look @param {Detail} detail @returns {Look}
  */
 function lookOf(look, seen = '', detail = '', isIdle = false, comesAgain = false) {
@@ -86,15 +87,22 @@ function severityOf({ look, rank, detail, isIdle, comesAgain }) {
   return rank;
 }
 
-/** @param {Look} one @param {Look} other whether a line is rather shown by the first pattern */
+/**
+ * Called by list/problems.js.
+ * @param {Look} one
+ * @param {Look} other whether a line is rather shown by the first pattern
+ */
 const isWorse = (one, other) => severityOf(one) < severityOf(other);
 
-/** @param {{part: string}} look */
+/**
+ * Called by list/problems.js.
+ * @param {{part: string}} look
+ */
 const isHarm = ({ part }) => part === LOSES || part === THROWS;
 
 /**
  * Whether a problem has a line of its own even if another problem's line covers it: a fix of that one may leave this one, and only its own words say
- * what is lost.
+ * what is lost. Called by list/problems.js.
  * @param {{look: LookKey}} look
  */
 const isAlwaysTold = ({ look }) => look === 'field' || look === 'act' || look === 'undefined' || look === 'replies';

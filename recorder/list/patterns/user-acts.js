@@ -1,5 +1,5 @@
 'use strict';
-// Which user act or request an action comes from.
+// Which user act or request an action comes from. Whether a click, a key or typed text caused it.
 
 const { LETTERS_OF_ACT } = require('../../common/numbers.js');
 
@@ -24,7 +24,8 @@ class UserActs {
   }
 
   /**
-   * The event in which code runs: for a handler or what the browser did after it, that of its dispatch; for an event that code caused, the caller's.
+   * The event in which code runs: for a handler or what the browser did after it, that of its dispatch; for an event that code caused, the caller's. Called by
+   * list/sides.js.
    * @param {number} number
    */
   eventOf(number) {
@@ -39,7 +40,7 @@ class UserActs {
 
   /**
    * The user act that an action comes from: the act's number, from 1; minus the dispatch's number for an event of a user that no act of the recording
-   * caused; 0 if no user did it.
+   * caused; 0 if no user did it. Called by list/looks.js and list/sides.js.
    * @param {number} number of the action
    * @returns {number}
    */
@@ -67,7 +68,7 @@ class UserActs {
   }
 
   /**
-   * The request whose reply an action is in.
+   * The request whose reply an action is in. Called by list/looks.js and list/sides.js.
    * @param {number} number of the action
    * @returns {string|null} the request's number, as the trace has it
    */

@@ -1,6 +1,5 @@
-// The values of form fields, cookies and storage: variables of objects of their own. Of storage not seen: `length`, `key(n)`, `clear()`, and with
-// `input.value`, `checked`, `select.selectedIndex`, `document.cookie`, `localStorage.setItem` and `getItem`, `sessionStorage`.
-// `--depth globals` accesses without a method.
+// The values of form fields, cookies and storage: variables of objects of their own. `input.value`, `checked`, `select.selectedIndex`, `document.cookie`,
+// `localStorage.setItem` and `getItem`, `sessionStorage`. Of storage not seen: `length`, `key(n)`, `clear()`, and with `--depth globals` accesses without a method.
 
 import { each, findItem } from '../core/lists.js';
 import { replaceGetter, replaceMethod, replaceProperty } from '../core/replacing.js';
@@ -64,6 +63,7 @@ class Fields {
   }
 
   /**
+   * Hooks a property of form fields: reads and writes of it are accesses to the field's variable.
    * @param {object} owner
    * @param {string} name
    * @param {string} variable
@@ -107,7 +107,7 @@ class Fields {
   }
 
   /**
-   * A form is reset once the handlers of the event are done, if none prevents it.
+   * A form is reset once the handlers of the event are done, if none prevents it. Called by page/events/dispatches.js.
    * @param {import('../types').NewDispatch} dispatch
    */
   watchReset(dispatch) {
@@ -130,7 +130,7 @@ class Fields {
   }
 
   /**
-   * A key is pressed at a field that the user can change: what its handlers do is not needed for the change.
+   * A key is pressed at a field that the user can change: what its handlers do is not needed for the change. Called by page/events/dispatches.js.
    * @param {import('../types').Dispatch} dispatch which begins
    */
   noteKey(dispatch) {
@@ -141,7 +141,7 @@ class Fields {
 
   /**
    * The user's change of a field belongs to the start of its `input` event. If handlers of its key have run, it is a write of the key's own event too: without
-   * them the field would have changed as well, so it does not come after the code that registered them.
+   * them the field would have changed as well, so it does not come after the code that registered them. Called by page/events/dispatches.js.
    * @param {Event} event
    * @param {any} target any target of events
    */
@@ -155,6 +155,7 @@ class Fields {
     each(this.forms.radiosBeside(target), (radio) => this.recording.accessNow('w', this.#location(radio, 'checked'), ''));
   }
 
+  /** Hooks `document.cookie`: all cookies are one variable. */
   #replaceCookie() {
     const { recording, page } = this;
     replaceProperty(page.window.Document.prototype, 'cookie', (native) => ({
@@ -172,7 +173,7 @@ class Fields {
   // ---- storage
 
   /**
-   * Which storage of the window an object is: `localStorage`, `sessionStorage`, or '' if it is neither.
+   * Which storage of the window an object is: `localStorage`, `sessionStorage`, or '' if it is neither. Called by page/objects/properties.js.
    * @param {unknown} object
    */
   areaOf(object) {

@@ -32,7 +32,7 @@ class Forms {
   }
 
   /**
-   * The fields of a form that have a value to reset, and the variable that it is.
+   * The fields of a form that have a value to reset, and the variable that it is. Called by fields.js.
    * @param {any} form of a document of its own classes
    */
   fieldsOf(form) {
@@ -47,7 +47,7 @@ class Forms {
   }
 
   /**
-   * What a field has now.
+   * What a field has now. Called by fields.js.
    * @param {Element} field
    * @param {string} variable
    */
@@ -56,7 +56,7 @@ class Forms {
   }
 
   /**
-   * The other radio buttons of the group of one; nothing of another element.
+   * The other radio buttons of the group of one; nothing of another element. Called by fields.js.
    * @param {any} radio any element
    * @returns {Element[]}
    */
@@ -82,7 +82,7 @@ class Forms {
   }
 
   /**
-   * The `select` that an option is in.
+   * The `select` that an option is in. Called by fields.js.
    * @param {Element} option
    * @returns {Element|null}
    */

@@ -60,7 +60,7 @@ class Globals {
   }
 
   /**
-   * A script declares variables with names of the browser. A `var` of such a name is the page's if it can be written.
+   * A script declares variables with names of the browser. A `var` of such a name is the page's if it can be written. Called by page/helpers/runs.js.
    * @param {[name: string, isVar: boolean][]} taken
    */
   take(taken) {
@@ -111,7 +111,7 @@ class Globals {
   }
 
   /**
-   * A write that has happened, or is about to.
+   * A write that has happened, or is about to. Called by page/helpers/globals.js and page/objects/properties.js.
    * @param {string} name
    * @param {number} site
    */
@@ -120,7 +120,7 @@ class Globals {
   }
 
   /**
-   * An expression that has read and changed a variable.
+   * An expression that has read and changed a variable. Called by page/helpers/globals.js and page/objects/properties.js.
    * @param {string} name
    * @param {number} site
    */
@@ -131,7 +131,7 @@ class Globals {
   }
 
   /**
-   * An update whose value nobody uses.
+   * An update whose value nobody uses. Called by page/helpers/globals.js and page/objects/properties.js.
    * @param {string} name
    * @param {number} site
    */
@@ -163,7 +163,8 @@ class Globals {
   }
 
   /**
-   * A `let`, a `const` or a class at the top of a script has its value in a cell of its own, as no property of the window has it.
+   * A `let`, a `const` or a class at the top of a script has its value in a cell of its own, as no property of the window has it. Called by
+   * page/helpers/globals.js.
    * @param {number} site
    * @param {string} name
    * @param {unknown} value
@@ -196,7 +197,7 @@ class Globals {
   }
 
   /**
-   * Whether an access can be written that the running piece of code has not had yet. From now on it has.
+   * Whether an access can be written that the running piece of code has not had yet. From now on it has. Called by imports.js and page/helpers/globals.js.
    * @param {number} site
    */
   isFirst(site) {
@@ -226,7 +227,7 @@ class Globals {
   }
 
   /**
-   * A function that a script declares is there before its code runs: the last look at the window has the value before.
+   * A function that a script declares is there before its code runs: the last look at the window has the value before. Called by page/scripts/scripts.js.
    * @param {string} name
    * @param {number} site
    */
@@ -236,7 +237,7 @@ class Globals {
   }
 
   /**
-   * Records a write that comes now, with the value from before.
+   * Records a write that comes now, with the value from before. Called by unseen.js.
    * @param {string} name
    * @param {number} site
    */
@@ -254,7 +255,7 @@ class Globals {
   }
 
   /**
-   * The value of a variable, without a call of the page's code.
+   * The value of a variable, without a call of the page's code. Called by page/objects/variables.js and page/scripts/ready.js.
    * @param {string} name
    * @returns {unknown}
    */
@@ -266,7 +267,7 @@ class Globals {
   }
 
   /**
-   * A property of the window; undefined if a page of another origin is in the frame by now.
+   * A property of the window; undefined if a page of another origin is in the frame by now. Called by unseen.js and page/tasks/clock.js.
    * @param {string} name
    */
   propertyOf(name) {
@@ -278,7 +279,7 @@ class Globals {
   }
 
   /**
-   * A write that is in the log is no unseen one.
+   * A write that is in the log is no unseen one. Called by page/objects/variables.js.
    * @param {string} name
    * @param {unknown} value
    */

@@ -35,7 +35,7 @@ class Imports {
   }
 
   /**
-   * A module starts.
+   * A module starts. Called by page/helpers/globals.js.
    * @param {number} number
    * @param {unknown} scope
    * @param {[string, string][]} own

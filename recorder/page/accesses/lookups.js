@@ -59,6 +59,7 @@ class Lookups {
     this.recording = page.recording;
   }
 
+  /** Hooks the calls that look for elements: each lookup of an id is a read, and what was found is noted. */
   start() {
     const lookups = this;
     each(LOOKUPS, ({ 0: owner, 1: names }) => each(names, (name) => {

@@ -71,7 +71,10 @@ class Unseen {
 
   // ---- comparing
 
-  /** Records which properties of the window have changed since the last look. Called at the end of each piece of code. */
+  /**
+   * Records which properties of the window have changed since the last look. Called at the end of each piece of code. Called by page/page.js and
+   * page/recording/recording.js.
+   */
   compare() {
     this.page.clock.look();
     each(Object.keys(this.page.window), (name) => this.#compareOne(name));
@@ -98,7 +101,7 @@ class Unseen {
 
   /**
    * What a driver's own code, or code that was not seen to run, wrote between two tasks of the page is no write of the next one. The functions of a
-   * script that begins are its own writes.
+   * script that begins are its own writes. Called by page/recording/recording.js.
    * @param {import('../scripts/scripts.js').FunctionOfScript[]} functions
    */
   takeOver(functions) {

@@ -18,6 +18,7 @@ function beginOf(window) {
 }
 
 /**
+ * Called by page/main.js.
  * @param {import('../types').PageWindow} window
  * @param {{seed: number, date: number}} chance
  */

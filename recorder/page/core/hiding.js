@@ -3,7 +3,8 @@
 import { Object, Reflect } from './taken.js';
 
 /**
- * Leaves nothing at the objects of a class that the page could use or replace; a class hides what they have in private members.
+ * Leaves nothing at the objects of a class that the page could use or replace; a class hides what they have in private members. Called by
+ * page/helpers/awaits.js and page/objects/scopes.js.
  * @param {Function} Class
  */
 function hideClass({ prototype }) {

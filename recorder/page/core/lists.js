@@ -43,7 +43,7 @@ function findItem(list, test) {
 }
 
 /**
- * How many items stand up to the last one that passes a test: 0 where none does.
+ * How many items stand up to the last one that passes a test: 0 where none does. Called by page/events/dispatches.js.
  * @template T
  * @param {ArrayLike<T>} list
  * @param {(item: T) => *} test

@@ -18,7 +18,7 @@ const TOOLS = {
 const withoutMarks = (text) => settings.textWithoutMarks(text, settings.marks, TOOLS);
 
 /**
- * What is inserted, as a mark in a text.
+ * What is inserted, as a mark in a text. Called by page/events/on-handlers.js, page/scripts/addresses.js and page/scripts/inserted-modules.js.
  * @param {string} text
  * @param {string} inserted
  * @returns {string}

@@ -3,7 +3,10 @@
 import { apply, getOwnPropertyDescriptor } from './taken.js';
 import { takeFirst } from './lists.js';
 
-/** @param {import('../types').PageWindow} window */
+/**
+ * Called by page/main.js.
+ * @param {import('../types').PageWindow} window
+ */
 function takeNatives(window) {
   const { CharacterData, Document, DocumentFragment, Element, Event, EventTarget, HTMLInputElement, HTMLTextAreaElement, Node, Promise, Selection } = window;
   return {
@@ -67,7 +70,7 @@ function takeNatives(window) {
 }
 
 /**
- * The getter of a property of the browser.
+ * The getter of a property of the browser. Called by page/accesses/forms.js.
  * @template {object} T
  * @template {keyof T & string} K
  * @param {T} owner

@@ -20,7 +20,7 @@ function replaceMethod(owner, name, make) {
 }
 
 /**
- * The page finds the name, the length and the text of the function in whose place another one is.
+ * The page finds the name, the length and the text of the function in whose place another one is. Called by page/scripts/ready.js.
  * @param {Function} replacement
  * @param {Function} native
  */
@@ -33,7 +33,8 @@ function showAs(replacement, native) {
 }
 
 /**
- * Puts a constructor in place of another one; `note` is called with each object that is made.
+ * Puts a constructor in place of another one; `note` is called with each object that is made. Called by page/document/made.js, page/events/messages.js and
+ * page/tasks/connections.js.
  * @param {import('../types').PageWindow} window
  * @param {string} name
  * @param {(made: any, args: any[]) => void} note the object is of the browser, the arguments are whatever the page passes
@@ -55,7 +56,8 @@ function replaceConstructor(window, name, note) {
 }
 
 /**
- * The page finds a constructor of the recorder in the place of the browser's, as it would find that: its name, its text and its objects.
+ * The page finds a constructor of the recorder in the place of the browser's, as it would find that: its name, its text and its objects. Called by chance.js,
+ * page/events/messages.js and page/tasks/observers.js.
  * @param {import('../types').PageWindow} window
  * @param {string} name
  * @param {Function} Replacement
@@ -86,7 +88,7 @@ function replaceProperty(owner, name, make) {
 }
 
 /**
- * Puts a getter in the place of that of a property.
+ * Puts a getter in the place of that of a property. Called by page/accesses/fields.js, page/document/attributes.js and page/tasks/callbacks.js.
  * @param {object} owner
  * @param {string} name
  * @param {(native: import('../types').Method) => import('../types').Method} make

@@ -8,7 +8,7 @@ const { exec } = /x/;
 const numberText = Number.prototype.toString;
 
 /**
- * Where a pattern is in a text, with its groups.
+ * Where a pattern is in a text, with its groups. Called by page/accesses/lookups.js, page/log/spelling.js and page/log/stack.js.
  * @param {RegExp} pattern
  * @param {string} text
  * @returns {RegExpExecArray|null}
@@ -31,6 +31,7 @@ const fits = (pattern, text) => apply(exec, pattern, [/** @type {string} */ (tex
 const sliceOf = (text, start, end) => apply(slice, text, [start, end]);
 
 /**
+ * Called by page/accesses/lookups.js and page/scripts/modules.js.
  * @param {string} text
  * @param {string} part
  * @param {number} [from]
@@ -38,19 +39,42 @@ const sliceOf = (text, start, end) => apply(slice, text, [start, end]);
  */
 const indexIn = (text, part, from = 0) => apply(indexOf, text, [part, from]);
 
-/** @param {string} text @param {string} end @returns {boolean} */
+/**
+ * Called by page/document/attributes.js and page/events/handlers.js.
+ * @param {string} text
+ * @param {string} end
+ * @returns {boolean}
+ */
 const hasEnd = (text, end) => apply(endsWith, text, [end]);
 
-/** @param {string} text @returns {string} */
+/**
+ * Called by page/document/attributes.js and page/objects/trees.js.
+ * @param {string} text
+ * @returns {string}
+ */
 const lowerCase = (text) => apply(toLowerCase, text, []);
 
-/** @param {string} text @returns {string} */
+/**
+ * Called by page/log/stack.js.
+ * @param {string} text
+ * @returns {string}
+ */
 const withoutLastBlanks = (text) => apply(trimEnd, text, []);
 
-/** @param {string} text @param {number} at @returns {number} */
+/**
+ * Called by page/log/values.js.
+ * @param {string} text
+ * @param {number} at
+ * @returns {number}
+ */
 const codeAt = (text, at) => apply(charCodeAt, text, [at]);
 
-/** @param {number} number @param {number} base @returns {string} */
+/**
+ * Called by page/log/spelling.js and page/log/values.js.
+ * @param {number} number
+ * @param {number} base
+ * @returns {string}
+ */
 const digitsOf = (number, base) => apply(numberText, number, [base]);
 
 /** @type {import('../types').PatternTools} */
@@ -63,7 +87,7 @@ function withoutFragment(address) {
 }
 
 /**
- * The parts of a text between blanks.
+ * The parts of a text between blanks. Called by page/helpers/idle.js.
  * @param {string} text
  */
 function words(text) {

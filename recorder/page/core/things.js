@@ -24,7 +24,8 @@ const isElement = (target) => isThing(target) && /** @type {Node} */ (target).no
 const isMedia = (target) => !!target && (target.localName === 'video' || target.localName === 'audio');
 
 /**
- * Whether something is an object whose properties are values: to read them runs no code of the page.
+ * Whether something is an object whose properties are values: to read them runs no code of the page. Called by page/events/messages.js,
+ * page/events/navigations.js and page/tasks/callbacks.js.
  * @param {unknown} given
  * @returns {given is {[name: string]: any}} what the page passes
  */
@@ -35,7 +36,7 @@ function isPlainObject(given) {
 }
 
 /**
- * The document that a window shows, or null if that is of another origin.
+ * The document that a window shows, or null if that is of another origin. Called by page/events/messages.js and page/page.js.
  * @param {import('../types').PageWindow} window
  */
 function documentOf(window) {

@@ -34,6 +34,7 @@ class Attributes {
     this.ofAddresses = new WeakMap();
   }
 
+  /** Hooks what sets sources and other attributes that matter. */
   start() {
     const { window, recording } = this.page;
     each(SOURCES, ({ 0: owner, 1: name }) => this.#replaceSource(window[owner].prototype, name));
@@ -98,6 +99,7 @@ class Attributes {
 
   // ---- attributes
 
+  /** Hooks `setAttribute`: sources, `integrity` (dropped, as the copy of a script has another text), and handler attributes. */
   #replaceSetAttribute() {
     const attributes = this;
     const { page, recording } = this;

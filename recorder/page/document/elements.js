@@ -66,7 +66,7 @@ class Elements {
   }
 
   /**
-   * A form can have a field that is called `id`, so the attribute is asked.
+   * A form can have a field that is called `id`, so the attribute is asked. Called by tree.js.
    * @param {Element} element
    */
   idOf(element) {
@@ -83,7 +83,7 @@ class Elements {
   }
 
   /**
-   * The element with an id in this document.
+   * The element with an id in this document. Called by page/accesses/globals.js, page/accesses/lookups.js and tree.js.
    * @param {string} id
    * @returns {Element|undefined}
    */
@@ -92,7 +92,7 @@ class Elements {
   }
 
   /**
-   * What OUT.names.json has of a target.
+   * What OUT.names.json has of a target. Called by page/objects/trees.js.
    * @param {Target} target
    */
   facts(target) {
@@ -110,7 +110,7 @@ class Elements {
   }
 
   /**
-   * The whole address of what an element loads.
+   * The whole address of what an element loads. Called by sources.js.
    * @param {Element} element
    */
   addressOf(element) {
@@ -163,7 +163,7 @@ class Elements {
   }
 
   /**
-   * The kind as a declaration writes it: a frame also declares the document inside it.
+   * The kind as a declaration writes it: a frame also declares the document inside it. Called by tree.js.
    * @param {Element} element
    * @param {boolean} isStatic whether the parser made it
    */
@@ -177,7 +177,7 @@ class Elements {
   }
 
   /**
-   * The running action declares a target: notes this, its kind and its facts. The caller writes the line.
+   * The running action declares a target: notes this, its kind and its facts. The caller writes the line. Called by tree.js and page/page.js.
    * @param {Target} target
    * @param {string} kind
    */
@@ -192,7 +192,7 @@ class Elements {
   // ---- what the window's load waits for
 
   /**
-   * Whether a parse step can come directly after the run of the script that runs, also if a handler in it runs, as that of the script's `error`.
+   * Whether a parse step can come directly after the run of the script that runs, also if a handler in it runs, as that of the script's `error`. Called by tree.js.
    * @param {Element} element what is to be made in that step
    */
   isBlocking(element) {
@@ -204,7 +204,8 @@ class Elements {
 
   /**
    * The window's load waits for a script or an image that a script makes while the page is parsed, and the parser for a script that it writes,
-   * which `new` cannot say. If the running script is a blocking one, a parse step directly after its run gives exactly that order.
+   * which `new` cannot say. If the running script is a blocking one, a parse step directly after its run gives exactly that order. Called by sources.js and
+   * tree.js.
    * @param {Element} element
    * @param {number} number
    * @param {string} kind
@@ -216,7 +217,8 @@ class Elements {
   }
 
   /**
-   * An element that another event makes than a blocking script: its load comes before the handlers of the window's load (loading.js).
+   * An element that another event makes than a blocking script: its load comes before the handlers of the window's load (loading.js). Called by sources.js and
+   * tree.js.
    * @param {Element} element
    * @param {number} number
    * @param {string} kind
@@ -227,7 +229,10 @@ class Elements {
     if (isOwn && !this.page.loading.hasBegunLoad && fits(/^(async|image|frame)/, kind)) this.awaited.add(number);
   }
 
-  /** Writes the parse steps of what the last script made, as its run is over. Called at the start of a task, and before further parse steps. */
+  /**
+   * Writes the parse steps of what the last script made, as its run is over. Called at the start of a task, and before further parse steps. Called by tree.js
+   * and page/recording/recording.js.
+   */
   writeJoining() {
     if (!this.joining.size) return;
     const { joining, page } = this;
@@ -255,7 +260,8 @@ class Elements {
   // ---- elements that stand for others
 
   /**
-   * A plain element that stands for a target. It is made in an action that may be over: the dispatch at it comes after that.
+   * A plain element that stands for a target. It is made in an action that may be over: the dispatch at it comes after that. Called by reactions.js,
+   * page/events/queued.js and page/tasks/observers.js.
    * @param {Moment|null} moment
    * @param {Target} target
    * @param {string} why
@@ -269,7 +275,7 @@ class Elements {
 
   /**
    * A plain element that stands for a target in one dispatch. It is declared beside the target, so that the dispatch comes after the target's
-   * maker, and no rule joins it with other dispatches at the target.
+   * maker, and no rule joins it with other dispatches at the target. Called by page/events/dispatches.js, page/events/messages.js and page/events/queued.js.
    * @param {Target} target
    * @param {string} why
    */

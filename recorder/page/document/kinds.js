@@ -8,6 +8,7 @@ import { HTML_NAMESPACE } from '../core/things.js';
 
 const SVG_NAMESPACE = 'http://www.w3.org/2000/svg';
 
+/** Made by page/page.js, as its `kinds`. */
 class Kinds {
   /** @param {import('../types').Natives} natives */
   constructor(natives) {
@@ -15,7 +16,7 @@ class Kinds {
   }
 
   /**
-   * The value of an attribute, by the browser's own function.
+   * The value of an attribute, by the browser's own function. Called by elements.js and page/scripts/broken.js.
    * @param {Element} element
    * @param {string} name
    * @returns {string|null}
@@ -25,7 +26,7 @@ class Kinds {
   }
 
   /**
-   * Whether an element has an attribute, by the browser's own function.
+   * Whether an element has an attribute, by the browser's own function. Called by elements.js.
    * @param {Element} element
    * @param {string} name
    * @returns {boolean}
@@ -35,7 +36,8 @@ class Kinds {
   }
 
   /**
-   * The kind of an element of this window, as a word of the format: `plain`, `image`, `async`, ..
+   * The kind of an element of this window, as a word of the format: `plain`, `image`, `async`, .. Called by elements.js, sources.js and
+   * page/scripts/insertions.js.
    * @param {Element} element
    * @param {boolean} isStatic whether the parser made it
    */
@@ -60,7 +62,7 @@ class Kinds {
   }
 
   /**
-   * The window's load does not wait for what the browser fetches once it comes into view.
+   * The window's load does not wait for what the browser fetches once it comes into view. Called by elements.js, loading.js and sources.js.
    * @param {Element} element
    */
   isLazy(element) {
@@ -79,7 +81,7 @@ class Kinds {
   }
 
   /**
-   * Whether a script is in a file of its own.
+   * Whether a script is in a file of its own. Called by page/scripts/broken.js, page/scripts/inserted-modules.js and page/scripts/insertions.js.
    * @param {Element} element
    */
   hasSource(element) {
@@ -88,7 +90,7 @@ class Kinds {
 
   /**
    * The kind of a script element that the parser made. One with an empty source never runs, and nothing waits for its error. In SVG, Chromium reads `async`,
-   * and not `defer`.
+   * and not `defer`. Called by tree.js.
    * @param {Element} element
    */
   ofStaticScript(element) {
@@ -101,7 +103,7 @@ class Kinds {
   }
 
   /**
-   * An inline script that a script inserts runs inside the running action, so it has no run of its own.
+   * An inline script that a script inserts runs inside the running action, so it has no run of its own. Called by page/scripts/insertions.js.
    * @param {Element} element
    */
   ofInsertedScript(element) {

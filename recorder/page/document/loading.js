@@ -65,7 +65,7 @@ class Loading {
 
   /**
    * `readystatechange` to `complete`, `load` and `pageshow` come one directly after the other, so they are one dispatch;
-   * and so are `readystatechange` to `interactive` and DOMContentLoaded, where no deferred script runs between.
+   * and so are `readystatechange` to `interactive` and DOMContentLoaded, where no deferred script runs between. Called by page/events/dispatches.js.
    * @param {Event} event
    * @param {Target} target
    */
@@ -90,7 +90,7 @@ class Loading {
   }
 
   /**
-   * Writes the begin of a dispatch that belongs to loading. Returns whether it does.
+   * Writes the begin of a dispatch that belongs to loading. Returns whether it does. Called by page/events/dispatches.js.
    * @param {EventDispatch} dispatch
    */
   begin(dispatch) {
@@ -137,14 +137,14 @@ class Loading {
   }
 
   /**
-   * A blocking script has run.
+   * A blocking script has run. Called by page/scripts/scripts.js.
    * @param {number} number
    */
   noteRunOf(number) {
     this.lastRun = { number, end: this.recording.moment() || this.recording.lastMoment() };
   }
 
-  /** A deferred script begins to run. */
+  /** A deferred script begins to run. Called by page/scripts/modules.js and page/scripts/scripts.js. */
   comeAfterParsing() {
     const { parsed } = this;
     this.parsed = [];
@@ -231,7 +231,7 @@ class Loading {
 
   /**
    * The load or error event of a script for which the parser or DOMContentLoaded waits comes inside its run, directly after its last statement; the
-   * run of a script that failed is empty. Returns whether the event is such a one.
+   * run of a script that failed is empty. Returns whether the event is such a one. Called by page/events/dispatches.js.
    * @param {EventDispatch} dispatch
    */
   beginInRun(dispatch) {

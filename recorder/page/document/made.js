@@ -27,6 +27,7 @@ class Made {
   }
 
   /**
+   * Hooks a call that makes elements of a text or copies them: those that load are declared at once.
    * @param {any} owner its members differ by interface
    * @param {string} name
    */

@@ -39,6 +39,7 @@ class Reactions {
     this.get = page.window.CustomElementRegistry.prototype.get;
   }
 
+  /** Hooks `customElements.define`, from which the browser reads the reactions, and `whenDefined`. */
   start() {
     const reactions = this;
     const { CustomElementRegistry, customElements } = this.page.window;
@@ -111,6 +112,7 @@ class Reactions {
   }
 
   /**
+   * Puts a getter in the place of a reaction while the browser reads it: it gets a wrapped one. Returns what takes the getter away.
    * @param {object} prototype
    * @param {string} name
    * @param {Former|null} former
@@ -196,6 +198,7 @@ class Reactions {
   }
 
   /**
+   * Runs a reaction while no code is on the stack, as the handler of a dispatch of its own.
    * @template T
    * @param {Element} element
    * @param {Reaction} reaction

@@ -17,7 +17,7 @@ class Shadows {
   }
 
   /**
-   * Whether a node is in one of them.
+   * Whether a node is in one of them. Called by tree.js.
    * @param {Node} node
    */
   has(node) {
@@ -25,7 +25,7 @@ class Shadows {
   }
 
   /**
-   * An element that the parser made might have a shadow tree by now; a closed one is not found.
+   * An element that the parser made might have a shadow tree by now; a closed one is not found. Called by tree.js.
    * @param {Element} element
    */
   look(element) {
@@ -43,7 +43,7 @@ class Shadows {
 
   /**
    * A script in a shadow tree begins to run: the browser does not say which one. `address` is that of its file, or of the page where it is in
-   * it: then it is the last element that the parser made, or one in a closed tree.
+   * it: then it is the last element that the parser made, or one in a closed tree. Called by page/scripts/scripts.js.
    * @param {string} address
    * @returns {Element|null|undefined} undefined where no such script is known
    */

@@ -26,7 +26,8 @@ class Sources {
   }
 
   /**
-   * A script sets what an element loads: the load event comes after this, whoever made the element. An element that is made here stands for it.
+   * A script sets what an element loads: the load event comes after this, whoever made the element. An element that is made here stands for it. Called by
+   * attributes.js.
    * @param {Element} element
    */
   noteSource(element) {
@@ -52,7 +53,8 @@ class Sources {
   }
 
   /**
-   * An element that stands for another one in its next load, and in its run if it is a script: it is made in the running action.
+   * An element that stands for another one in its next load, and in its run if it is a script: it is made in the running action. Called by
+   * page/scripts/insertions.js.
    * @param {Element} element
    * @param {'async'|'frame'|'image'} kind
    * @param {string} why
@@ -109,7 +111,7 @@ class Sources {
   }
 
   /**
-   * What an element loads now.
+   * What an element loads now. Called by attributes.js.
    * @param {Element} element
    */
   nameSource(element) {
@@ -121,7 +123,7 @@ class Sources {
   // ---- pages in frames
 
   /**
-   * The document number for a page that a frame shows now; the empty page before its first one is passing.
+   * The document number for a page that a frame shows now; the empty page before its first one is passing. Called by page/frames.js.
    * @param {Element} frame
    * @param {boolean} isPassing
    * @returns {number}

@@ -22,7 +22,7 @@ class Texts {
 
   /**
    * The parser has added a text, or has added to one. It does so after the step of the element before, maybe much later, and before its next step, to
-   * which the change belongs. The text of a script belongs to the script's own step, since the script runs next.
+   * which the change belongs. The text of a script belongs to the script's own step, since the script runs next. Called by tree.js.
    * @param {MutationRecord} record
    * @param {Node} node the text, or a comment
    */
@@ -33,7 +33,7 @@ class Texts {
     else if (this.recording.objects) this.waiting[this.waiting.length] = record;
   }
 
-  /** Called in a step of the parser. */
+  /** Called in a step of the parser. Called by tree.js. */
   write() {
     const { waiting } = this;
     if (!waiting.length) return;
@@ -41,7 +41,7 @@ class Texts {
     each(waiting, (record) => this.page.tree.noteChange(record));
   }
 
-  /** Texts after which no element has come yet have a step of their own. */
+  /** Texts after which no element has come yet have a step of their own. Called by tree.js. */
   writeRest() {
     const { recording, page } = this;
     if (!this.waiting.length) return;

@@ -1,5 +1,5 @@
 // Changes of a document's tree, as a mutation observer reports them. What changes while no script runs is the parser's: each element is a parse step. Nodes
-// that are added to the DOM, moved or removed from it, and attributes that change.
+// that are added to the DOM, moved or removed from it, and attributes that change. Made by page/page.js, as its `tree`.
 
 import { each, findItem, joined } from '../core/lists.js';
 import { Set, WeakMap, apply } from '../core/taken.js';
@@ -65,12 +65,12 @@ class Tree {
     this.watch(document);
   }
 
-  /** The window shows another document: what was changed so far is taken, as its task has begun. */
+  /** The window shows another document: what was changed so far is taken, as its task has begun. Called by page/page.js. */
   stop() {
     this.observer.disconnect();
   }
 
-  /** Observes a document or a shadow tree. */
+  /** Observes a document or a shadow tree. Called by shadows.js. */
   watch(/** @type {Node} */ root) {
     this.observer.observe(root, {
       childList: true, subtree: true, attributes: true, attributeOldValue: true,
@@ -81,7 +81,7 @@ class Tree {
   // ---- changes
 
   /**
-   * Takes the changes so far.
+   * Takes the changes so far. Called by page/events/calls.js, page/frames.js and page/recording/recording.js.
    * @param {'script'|'parser'} by
    */
   collect(by) {
@@ -113,7 +113,7 @@ class Tree {
     this.texts.writeRest();
   }
 
-  /** Changes that the browser made while no script ran belong to the action that has begun now. */
+  /** Changes that the browser made while no script ran belong to the action that has begun now. Called by page/events/dispatches.js. */
   writeLate() {
     const records = this.late;
     this.late = [];
@@ -173,7 +173,7 @@ class Tree {
     return steering.isActive && addedNodes.length + removedNodes.length > 0 && isWithout(addedNodes) && isWithout(removedNodes);
   }
 
-  /** Records a change as a write of the element's variables, if objects have variables. */
+  /** Records a change as a write of the element's variables, if objects have variables. Called by texts.js. */
   noteChange(/** @type {MutationRecord} */ record) {
     const { objects } = this.recording;
     if (objects) objects.trees.noteChange(record);
@@ -219,7 +219,7 @@ class Tree {
   }
 
   /**
-   * An element has come: declares it, unless it is known, and reads its handlers.
+   * An element has come: declares it, unless it is known, and reads its handlers. Called by shadows.js.
    * @param {Node} node
    * @param {Maker} maker
    */
@@ -261,7 +261,7 @@ class Tree {
   }
 
   /**
-   * Writes a step of the parser.
+   * Writes a step of the parser. Called by elements.js.
    * @param {Element|null} element null: a script in a closed shadow tree
    * @param {number} number
    * @param {string} kind

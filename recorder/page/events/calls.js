@@ -40,7 +40,7 @@ class Calls {
     this.writing = 0;
   }
 
-  /** Whether `document.write` makes elements now, and no script that it wrote. */
+  /** Whether `document.write` makes elements now, and no script that it wrote. Called by page/document/tree.js and page/scripts/insertions.js. */
   isWriting() {
     return this.writing > 0 && this.recording.contexts.length === this.writing;
   }
@@ -55,7 +55,8 @@ class Calls {
   }
 
   /**
-   * Runs a call of the browser: dispatches in it are inline, and they are over as it returns. One that a driver's code makes is in no event.
+   * Runs a call of the browser: dispatches in it are inline, and they are over as it returns. One that a driver's code makes is in no event. Called by
+   * page/tasks/requests.js.
    * @template T
    * @param {() => T} call
    * @param {boolean} isInsertion
@@ -149,7 +150,10 @@ class Calls {
     });
   }
 
-  /** @param {any} owner its members differ by interface */
+  /**
+   * Hooks `createElement`: the element is declared in the action that makes it.
+   * @param {any} owner its members differ by interface
+   */
   #replaceCreation(owner) {
     const calls = this;
     const declare = (/** @type {Element} */ element) => {

@@ -50,7 +50,10 @@ class Capturing {
     this.#captureAt(type);
   }
 
-  /** @param {string} type */
+  /**
+   * Listens at the window for a type, before any listener of the page; once for each type.
+   * @param {string} type
+   */
   #captureAt(type) {
     if (this.captured.has(type)) return;
     this.captured.add(type);
@@ -64,7 +67,7 @@ class Capturing {
     if (type === 'load') apply(listen, document, [type, this.see, true]);
   }
 
-  /** `document.open` removes all listeners. */
+  /** `document.open` removes all listeners. Called by calls.js and page/page.js. */
   captureAgain() {
     const types = valuesOf(this.captured);
     this.captured.clear();
@@ -102,7 +105,7 @@ class Capturing {
 
   /**
    * A script has dispatched an event. If no dispatch was recorded, because nobody has listened to the type so far, the running action looks for
-   * handlers: a later one can register some.
+   * handlers: a later one can register some. Called by calls.js.
    * @param {Event} event
    * @param {import('../types').Target} target
    */
@@ -182,7 +185,7 @@ class Capturing {
 const letMicrotasksRun = () => {};
 
 /**
- * Whether a target is a node or the window.
+ * Whether a target is a node or the window. Called by dispatches.js.
  * @param {import('../types').Target} target
  * @param {EventTarget} window
  */

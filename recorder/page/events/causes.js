@@ -40,6 +40,7 @@ class Causes {
   }
 
   /**
+   * Hooks a call that opens or closes an element: if it does, it queues events.
    * @param {object} owner
    * @param {string} name
    * @param {string[]} types what the call queues
@@ -80,7 +81,7 @@ class Causes {
   }
 
   /**
-   * The attribute `open` of a details element has come or gone.
+   * The attribute `open` of a details element has come or gone. Called by page/document/tree.js.
    * @param {Element} element
    */
   noteOpen(element) {
@@ -109,7 +110,10 @@ class Causes {
 
   // ---- scrolling
 
-  /** @param {import('../types').PageWindow} window */
+  /**
+   * Hooks the calls and properties that scroll.
+   * @param {import('../types').PageWindow} window
+   */
   #watchScrolling(window) {
     const causes = this;
     const { Element } = window;
@@ -150,7 +154,10 @@ class Causes {
 
   // ---- selections
 
-  /** @param {import('../types').PageWindow} window */
+  /**
+   * Hooks the calls and properties that select text.
+   * @param {import('../types').PageWindow} window
+   */
   #watchSelection({ HTMLInputElement, HTMLTextAreaElement, Selection }) {
     const causes = this;
     each([HTMLInputElement.prototype, HTMLTextAreaElement.prototype], (owner) => {
@@ -217,7 +224,7 @@ class Causes {
   // ---- storage of another frame
 
   /**
-   * The other windows of the origin get an event when a storage changes.
+   * The other windows of the origin get an event when a storage changes. Called by page/accesses/fields.js.
    * @param {string} key
    * @param {string|null} value
    */

@@ -33,11 +33,14 @@ const CONSEQUENCES = new Map([
 const LATER = new Set(['select', 'selectionchange', 'toggle', 'close', 'keypress']);
 const LONGEST_PAUSE = 30;
 
-/** @param {string} type */
+/**
+ * Called by dispatches.js.
+ * @param {string} type
+ */
 const hasConsequences = (type) => CONSEQUENCES.has(type);
 
 /**
- * Whether an event of a type that begins now can be a consequence of a dispatch whose handlers are done.
+ * Whether an event of a type that begins now can be a consequence of a dispatch whose handlers are done. Called by dispatches.js.
  * @param {import('../types').Dispatch} cause
  * @param {string} type
  * @param {number} task the task that runs

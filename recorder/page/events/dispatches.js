@@ -45,7 +45,7 @@ class Dispatches {
   }
 
   /**
-   * The dispatch of an event that is not over.
+   * The dispatch of an event that is not over. Called by capturing.js.
    * @param {Event} event
    */
   find(event) {
@@ -55,7 +55,7 @@ class Dispatches {
   // ---- the begin
 
   /**
-   * Writes the begin of a dispatch.
+   * Writes the begin of a dispatch. Called by capturing.js.
    * @param {Event} event
    * @param {EventTarget|null} current
    * @returns {Dispatch|null} null if it can have no record: a parse step called it
@@ -118,7 +118,7 @@ class Dispatches {
   }
 
   /**
-   * Writes the begin of a dispatch inside of the running event.
+   * Writes the begin of a dispatch inside of the running event. Called by page/document/loading.js.
    * @param {EventDispatch} dispatch
    * @param {string} why
    */
@@ -202,7 +202,8 @@ class Dispatches {
   }
 
   /**
-   * The lookup of handlers at each node of the path; trace/spelling.js writes it as reads of all slots that are ever written there.
+   * The lookup of handlers at each node of the path; trace/spelling.js writes it as reads of all slots that are ever written there. Called by
+   * page/document/loading.js and capturing.js.
    * @param {EventTarget[]} path
    * @param {string} type
    */
@@ -217,7 +218,7 @@ class Dispatches {
   // ---- handlers
 
   /**
-   * A handler begins to run.
+   * A handler begins to run. Called by on-handlers.js.
    * @param {number} handler
    * @param {Event|undefined} event
    * @param {EventTarget} current
@@ -263,7 +264,7 @@ class Dispatches {
   }
 
   /**
-   * Ends what `handlerBegins` entered: a handler of a dispatch, or with null a call that is not recorded.
+   * Ends what `handlerBegins` entered: a handler of a dispatch, or with null a call that is not recorded. Called by page/helpers/runs.js.
    * @param {Dispatch|null} dispatch
    */
   handlerEnds(dispatch) {
@@ -277,7 +278,7 @@ class Dispatches {
   }
 
   /**
-   * Runs a function as a handler of an event.
+   * Runs a function as a handler of an event. Called by handlers.js, navigations.js and on-handlers.js.
    * @template T
    * @param {number} handler
    * @param {Event|undefined} event

@@ -37,6 +37,7 @@ class Handlers {
     this.listeners = new WeakMap();
   }
 
+  /** Hooks `addEventListener` and `removeEventListener`: the browser gets wrapped listeners. */
   start() {
     const handlers = this;
     const { EventTarget, window } = this.page;
@@ -54,7 +55,7 @@ class Handlers {
   // ---- slots
 
   /**
-   * Each listener has a slot of its own; the handler of a property or an attribute has the one named by the type.
+   * Each listener has a slot of its own; the handler of a property or an attribute has the one named by the type. Called by on-handlers.js.
    * @param {Target} target
    * @param {string} type
    * @param {number} [handler]
@@ -85,7 +86,7 @@ class Handlers {
   }
 
   /**
-   * Writes what OUT.names.json has of a handler.
+   * Writes what OUT.names.json has of a handler. Called by on-handlers.js.
    * @param {number} handler
    * @param {Target} target
    * @param {string} type
@@ -98,7 +99,7 @@ class Handlers {
   }
 
   /**
-   * Whether a target has a handler of a type now that was registered in an event.
+   * Whether a target has a handler of a type now that was registered in an event. Called by page/reach/controls.js.
    * @param {Target} target
    * @param {string} type
    * @param {import('../types').TraceEvent} event

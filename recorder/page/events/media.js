@@ -52,7 +52,7 @@ class Media {
   // ---- causes
 
   /**
-   * Something else is to be played: what was to come of the former is dropped by the browser.
+   * Something else is to be played: what was to come of the former is dropped by the browser. Called by page/document/attributes.js and page/document/tree.js.
    * @param {HTMLMediaElement} element
    */
   noteLoading(element) {
@@ -79,7 +79,7 @@ class Media {
   }
 
   /**
-   * What caused an event of a media element, or undefined.
+   * What caused an event of a media element, or undefined. Called by queued.js.
    * @param {Event} event
    * @param {HTMLMediaElement} element
    */
@@ -134,7 +134,10 @@ class Media {
     });
   }
 
-  /** @param {any} owner its members differ by interface */
+  /**
+   * Hooks `play` and `pause`.
+   * @param {any} owner its members differ by interface
+   */
   #replacePlaying(owner) {
     const media = this;
     replaceMethod(owner, 'play', (native) => function play() {
@@ -166,6 +169,7 @@ class Media {
   }
 
   /**
+   * Hooks a property whose change queues an event, as `volume`.
    * @param {object} owner
    * @param {string} name
    * @param {string} type what a change queues

@@ -26,6 +26,7 @@ class Messages {
     this.origin = page.window.origin;
   }
 
+  /** Hooks `postMessage` of windows, channels and broadcasts; of workers it notes that one is there. */
   start() {
     const messages = this;
     const { window } = this.page;
@@ -63,7 +64,10 @@ class Messages {
     });
   }
 
-  /** @param {PageWindow} window */
+  /**
+   * Hooks channels: of each port it is known which other one gets its messages.
+   * @param {PageWindow} window
+   */
   #replaceChannel(window) {
     const messages = this;
     const { peers } = this.recording;
@@ -99,7 +103,7 @@ class Messages {
   }
 
   /**
-   * A port hands out messages once it is started, whenever they were posted.
+   * A port hands out messages once it is started, whenever they were posted. Called by on-handlers.js.
    * @param {any} port a port, or another target of messages
    */
   noteStart(port) {
@@ -198,7 +202,7 @@ class Messages {
   }
 
   /**
-   * Begins the dispatch of a message whose sender is recorded. Returns whether it is one.
+   * Begins the dispatch of a message whose sender is recorded. Returns whether it is one. Called by dispatches.js.
    * @param {EventDispatch} dispatch
    */
   begin(dispatch) {
@@ -237,7 +241,7 @@ class Messages {
   }
 
   /**
-   * A message of a frame that is not recorded comes after the frame was made, and after the one before.
+   * A message of a frame that is not recorded comes after the frame was made, and after the one before. Called by queued.js.
    * @param {Event} event
    * @param {import('../types').Target} target
    * @returns {import('./queued.js').Cause|undefined}

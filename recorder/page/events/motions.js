@@ -62,7 +62,7 @@ class Motions {
   }
 
   /**
-   * An element has come: a motion directly after this may be due to it.
+   * An element has come: a motion directly after this may be due to it. Called by page/document/tree.js.
    * @param {Element} element
    */
   noteAdded(element) {
@@ -70,7 +70,7 @@ class Motions {
   }
 
   /**
-   * A script has changed an attribute of an element.
+   * A script has changed an attribute of an element. Called by page/document/tree.js.
    * @param {Element} element
    * @param {string} name of the attribute
    */
@@ -91,7 +91,7 @@ class Motions {
   }
 
   /**
-   * Calls a function after so many frames.
+   * Calls a function after so many frames. Called by queued.js.
    * @param {number} frames
    * @param {() => void} call
    */
@@ -131,7 +131,7 @@ class Motions {
   }
 
   /**
-   * A motion starts.
+   * A motion starts. Called by capturing.js.
    * @param {MotionEvent} event
    */
   noteStart(event) {

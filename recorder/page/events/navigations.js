@@ -45,7 +45,10 @@ class Navigations {
     this.#replaceIntercept(window.NavigateEvent.prototype);
   }
 
-  /** @param {PageWindow} window */
+  /**
+   * Hooks the calls that step through the history.
+   * @param {PageWindow} window
+   */
   #replaceSteps(window) {
     const navigations = this;
     const { navigation, recording } = this;
@@ -104,7 +107,10 @@ class Navigations {
     return byKey && byHistory ? null : (byKey || byHistory)?.moment;
   }
 
-  /** @param {NavigateEvent} event */
+  /**
+   * At `navigate`: which events of the page the step queues, and after which call they come.
+   * @param {NavigateEvent} event
+   */
   #noteNavigation(event) {
     if (this.recording.isOver) return;
     const { navigationType, hashChange, destination } = event;

@@ -68,7 +68,7 @@ class OnHandlers {
   // ---- properties
 
   /**
-   * The number of the handler in an `on..` property.
+   * The number of the handler in an `on..` property. Called by handlers.js.
    * @param {Target} target
    * @param {string} type
    */
@@ -76,7 +76,10 @@ class OnHandlers {
     return this.ofProperties.get(target)?.get(type);
   }
 
-  /** A window has hundreds of `on..` properties: what their hooks share is in one closure, and each has little of its own. */
+  /**
+   * Hooks `on..` properties: a read and a write of the slot; the page reads back what it wrote. A window has hundreds of them: what their hooks share is in one
+   * closure, and each has little of its own.
+   */
   #makerOfAccessors() {
     const onHandlers = this;
     const { handlers, recording, page: { window } } = this;
@@ -143,7 +146,7 @@ class OnHandlers {
   // ---- attributes
 
   /**
-   * Registers the handlers in the attributes of a new element.
+   * Registers the handlers in the attributes of a new element. Called by page/document/made.js and page/document/tree.js.
    * @param {Element} element
    */
   readAttributes(element) {
@@ -155,7 +158,7 @@ class OnHandlers {
   }
 
   /**
-   * Whether an attribute of a name is a handler.
+   * Whether an attribute of a name is a handler. Called by page/document/attributes.js.
    * @param {string} name
    */
   isHandler(name) {
@@ -173,7 +176,7 @@ class OnHandlers {
   }
 
   /**
-   * Registers a handler whose text is in an attribute, as the parser or a script put it there.
+   * Registers a handler whose text is in an attribute, as the parser or a script put it there. Called by page/document/attributes.js.
    * @param {Element} element
    * @param {string} type
    * @param {string} text
@@ -195,7 +198,8 @@ class OnHandlers {
   }
 
   /**
-   * A script has called what can change or remove a handler attribute. A removal also removes the handler of the property.
+   * A script has called what can change or remove a handler attribute. A removal also removes the handler of the property. Called by
+   * page/document/attributes.js.
    * @param {Element} element
    * @param {string} type
    * @param {string|null} before
@@ -242,7 +246,7 @@ class OnHandlers {
   }
 
   /**
-   * The handler of an attribute begins to run; its text calls this.
+   * The handler of an attribute begins to run; its text calls this. Called by page/helpers/runs.js.
    * @param {Target} element
    * @param {Event|undefined} event
    * @param {string} type

@@ -64,7 +64,7 @@ class Queued {
 
   /**
    * The moment to name as the cause of something that happens now: the running action, or the close of a user's event whose default action the
-   * browser performs after the handlers. Returns null if there is neither.
+   * browser performs after the handlers. Returns null if there is neither. Called by navigations.js.
    */
   causeNow() {
     const { recording } = this;
@@ -110,7 +110,7 @@ class Queued {
   }
 
   /**
-   * Expects an event, unless one of the type is expected already: the browser merges the two, and the first cause counts.
+   * Expects an event, unless one of the type is expected already: the browser merges the two, and the first cause counts. Called by causes.js.
    * @param {EventTarget} target
    * @param {string} type
    * @param {Moment|null} moment
@@ -133,7 +133,8 @@ class Queued {
   }
 
   /**
-   * Expects an event in place of one of the same type that has not come yet: the browser merges the two, and the later cause counts.
+   * Expects an event in place of one of the same type that has not come yet: the browser merges the two, and the later cause counts. Called by causes.js and
+   * media.js.
    * @param {EventTarget} target
    * @param {string} type
    * @param {Moment|null} moment
@@ -157,7 +158,7 @@ class Queued {
   }
 
   /**
-   * The expected event that has come, which is expected no longer.
+   * The expected event that has come, which is expected no longer. Called by media.js.
    * @param {{type: string}} event
    * @param {EventTarget} target
    */
@@ -183,7 +184,7 @@ class Queued {
   }
 
   /**
-   * Writes the begin of a dispatch that was caused by an action which is over. Returns whether it is one.
+   * Writes the begin of a dispatch that was caused by an action which is over. Returns whether it is one. Called by dispatches.js.
    * @param {import('./dispatches.js').EventDispatch} dispatch
    */
   begin(dispatch) {
@@ -217,7 +218,7 @@ class Queued {
 
   /**
    * The microtasks of an event begin. The browser reports what they leave rejected in a task that is queued at their end. A task that is queued at
-   * their begin comes directly before it.
+   * their begin comes directly before it. Called by page/recording/recording.js.
    * @param {TraceEvent} event
    */
   noteJobs(event) {

@@ -27,7 +27,10 @@ class Await {
 
 hideClass(Await);
 
-/** @param {import('../types').Page} page */
+/**
+ * Called by helpers.js.
+ * @param {import('../types').Page} page
+ */
 function helpersOfAwaits({ jobs, modules }) {
   return {
     /** @type {(site: number, isOfModule?: number) => Await} */

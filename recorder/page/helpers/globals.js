@@ -15,7 +15,10 @@ function valueAfter(result, change) {
   return result + (typeof result === 'bigint' ? BigInt(change) : change);
 }
 
-/** @param {import('../accesses/globals').Globals} globals */
+/**
+ * Helpers for names of scripts.
+ * @param {import('../accesses/globals').Globals} globals
+ */
 function helpersOfNames(globals) {
   return {
     /** @type {(name: string, site: number) => void} */

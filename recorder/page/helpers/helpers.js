@@ -15,7 +15,10 @@ function helpersOfObjects(objects) {
   return { t: null, ...helpersOfProperties(objects), ...helpersOfScopes(objects), ...helpersOfWholes(objects), ...helpersOfCalls(objects), ...helpersOfFirsts(objects) };
 }
 
-/** @param {import('../types').Page} page */
+/**
+ * Called by page/main.js.
+ * @param {import('../types').Page} page
+ */
 function helpersOf(page) {
   const { objects } = page.recording;
   return {

@@ -1,4 +1,5 @@
-// The helpers of a document that is not recorded, whose scripts are instrumented all the same: each returns one of its arguments.
+// The helpers of a document that is not recorded (a sandboxed frame, one of another origin), whose scripts are instrumented all the same: each returns one of
+// its arguments.
 
 import { each } from '../core/lists.js';
 import { settings } from '../core/settings.js';
@@ -6,6 +7,7 @@ import { words } from '../core/strings.js';
 
 /** @typedef {{[name: string]: ((...args: any[]) => unknown)|null}} IdleHelpers the arguments are whatever the page passes */
 
+/** Called by page/main.js. */
 function idleHelpers() {
   const helpers = /** @type {IdleHelpers} */ ({ t: null, __proto__: null });
   each(words(settings.withoutAnswer), (name) => { helpers[name] = () => {}; });

@@ -30,6 +30,7 @@ function accessing({ recording, properties }) {
 }
 
 /**
+ * Makes the helpers for `object.name`: one for each of the modes, as a read, a write or both.
  * @param {import('../types').Objects} objects
  * @returns {(modes: Modes) => ByName}
  */
@@ -45,6 +46,7 @@ function makerByName(objects) {
 }
 
 /**
+ * Makes the helpers for `object[key]`, for each of the modes.
  * @param {import('../types').Objects} objects
  * @returns {(modes: Modes) => ByKey}
  */
@@ -97,7 +99,10 @@ function noterOfMade({ recording, sites, kinds }) {
   };
 }
 
-/** @param {import('../types').Objects} objects */
+/**
+ * Called by helpers.js.
+ * @param {import('../types').Objects} objects
+ */
 function helpersOfProperties(objects) {
   const byName = makerByName(objects);
   const byKey = makerByKey(objects);

@@ -2,7 +2,10 @@
 
 import { MADE_OF_TEXT } from '../log/log.js';
 
-/** @param {import('../types').Page} page */
+/**
+ * Called by helpers.js.
+ * @param {import('../types').Page} page
+ */
 function helpersOfScripts({ addresses, globals, insertedModules, messages, modules, recording, scripts }) {
   return {
     /** @type {(element: HTMLScriptElement|null, site: number, functions: [string, number][], taken?: [string, boolean][]) => void} */
@@ -33,7 +36,7 @@ function helpersOfScripts({ addresses, globals, insertedModules, messages, modul
 }
 
 /**
- * Handlers of attributes run one in another.
+ * Handlers of attributes run one in another. Called by helpers.js.
  * @param {import('../types').Page} page
  */
 function helpersOfAttributes(page) {

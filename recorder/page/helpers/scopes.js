@@ -4,7 +4,10 @@ import { UNKNOWN } from '../log/values.js';
 import { Scope } from '../objects/scopes.js';
 import { markOfStaged } from '../objects/sites.js';
 
-/** @param {import('../types').Objects} objects */
+/**
+ * Called by helpers.js.
+ * @param {import('../types').Objects} objects
+ */
 function helpersOfScopes({ recording, sites, scopes, variables }) {
   const { objects: lastObjects, marks } = sites;
   const { staged } = variables;

@@ -1,4 +1,4 @@
-// Helpers for whole objects, for methods with their first arguments, and for first values.
+// Helpers for whole objects, for methods with their first arguments, and for first values. Used by helpers.js.
 
 /** @typedef {(object: any, site: number, shape?: any) => any} OfWhole returns the object, which is whatever the page passes */
 

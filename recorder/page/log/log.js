@@ -12,7 +12,10 @@ const { indexOf } = String.prototype;
 /** @type {(text: string, part: string) => boolean} */
 const has = (text, part) => apply(indexOf, text, [part]) >= 0;
 
-/** A page never gets hold of a log. What it passes to a helper can be in a line, but makes no other line, and no other part of it. */
+/**
+ * A page never gets hold of a log. What it passes to a helper can be in a line, but makes no other line, and no other part of it. Made by
+ * page/recording/lines.js, as its `log`.
+ */
 class Log {
   /** Passes lines and counts to the driver (main.js). */
   #send;
@@ -65,7 +68,7 @@ class Log {
   }
 
   /**
-   * The number of a stack of several places of the page's code; 0 if there is only one.
+   * The number of a stack of several places of the page's code; 0 if there is only one. Called by page/recording/recording.js.
    * @param {import('../types').CallSite[]} calls
    */
   numberOfStack(calls) {
@@ -73,7 +76,7 @@ class Log {
   }
 
   /**
-   * The number of a stack as a text; 0 of an empty one.
+   * The number of a stack as a text; 0 of an empty one. Called by page/objects/callers.js.
    * @param {string} way
    */
   numberOfPlace(way) {
@@ -125,7 +128,7 @@ class Log {
   }
 
   /**
-   * Sends what was written, if it is much or some time has gone. Called as a task starts.
+   * Sends what was written, if it is much or some time has gone. Called as a task starts. Called by page/recording/recording.js.
    * @param {number} now milliseconds
    */
   sendIfDue(now) {
@@ -134,7 +137,7 @@ class Log {
   }
 
   /**
-   * Sends all lines that were written, with the counts of what was missed.
+   * Sends all lines that were written, with the counts of what was missed. Called by page/recording/recording.js.
    * @param {number} now milliseconds
    */
   sendAll(now) {

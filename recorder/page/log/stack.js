@@ -62,7 +62,10 @@ const { getScriptNameOrSourceURL, getLineNumber, getColumnNumber } = /** @type {
 const addressOf = (call) => apply(getScriptNameOrSourceURL, call, []) || '';
 /** @param {import('../types').CallSite} call */
 const isOfPage = (call) => fits(PAGE_ADDRESS, addressOf(call));
-/** @param {import('../types').CallSite} call */
+/**
+ * Called by page/recording/spots.js.
+ * @param {import('../types').CallSite} call
+ */
 const placeOfCall = (call) => `${addressOf(call)}:${apply(getLineNumber, call, [])}:${apply(getColumnNumber, call, [])}`;
 
 /** How foreign files are (`foreignness`), by their addresses; of what is no file of the page NO_FILE. @type {Map<string, number>} */
@@ -80,7 +83,8 @@ function foreignnessOf(call) {
 }
 
 /**
- * The page's own call that led to the running code, if that is in a library: '' if none is on the stack, null if the code is the page's own.
+ * The page's own call that led to the running code, if that is in a library: '' if none is on the stack, null if the code is the page's own. Called by
+ * page/objects/callers.js.
  * @returns {string|null}
  */
 function callOfLibrary() {
@@ -95,7 +99,8 @@ function callOfLibrary() {
 }
 
 /**
- * The first place among calls that helps a reader most: of the page's own code, otherwise of a library's.
+ * The first place among calls that helps a reader most: of the page's own code, otherwise of a library's. Called by page/recording/recording.js and
+ * page/recording/steering.js.
  * @param {import('../types').CallSite[]} calls
  * @returns {string} `address:line:column` in the browser's copy, or ''
  */
@@ -116,18 +121,21 @@ function placeOnStack() {
   return ownPlace(keep(takeStack(), isOfPage));
 }
 
-/** The address of the code that runs, or ''. */
+/** The address of the code that runs, or ''. Called by page/scripts/modules.js and page/scripts/scripts.js. */
 function fileOnStack() {
   const place = placeOnStack();
   const end = found(PLACE_IN_FILE, place);
   return end ? sliceOf(place, 0, end.index) : place;
 }
 
-/** The page's calls that led to what it requests now, the innermost first. */
+/**
+ * The page's calls that led to what it requests now, the innermost first. Called by page/recording/recording.js, page/recording/spots.js and
+ * page/recording/steering.js.
+ */
 const callsOfPage = () => keep(takeStack(LONGEST_WAY), isOfPage);
 
 /**
- * The places of several calls, a line each; '' if there is only one.
+ * The places of several calls, a line each; '' if there is only one. Called by log.js and page/recording/spots.js.
  * @param {import('../types').CallSite[]} calls
  */
 function wayOf(calls) {

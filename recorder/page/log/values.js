@@ -22,7 +22,8 @@ function hashOf(text) {
 }
 
 /**
- * `-` for nothing, `true`, `false` and `null` as themselves, a letter for a value without a text of its own, otherwise a letter and a hash.
+ * `-` for nothing, `true`, `false` and `null` as themselves, a letter for a value without a text of its own, otherwise a letter and a hash. Called by
+ * page/accesses/unseen.js and page/objects/waiting.js.
  * @param {unknown} value
  */
 function digestOf(value) {
@@ -42,7 +43,7 @@ const A_FUNCTION = () => {};
 const LONGEST_KEPT = 1000;
 
 /**
- * A value as an access that waits has it.
+ * A value as an access that waits has it. Called by page/objects/variables.js.
  * @param {unknown} value
  */
 function keepable(value) {
@@ -63,7 +64,10 @@ function nameOfFunction(given) {
   return descriptor && typeof descriptor.value === 'string' && descriptor.value ? sliceOf(descriptor.value, 0, 100) : undefined;
 }
 
-/** The values of writes: marks come before a write, so what it wrote is looked up when the action, or the piece of it, is over. */
+/**
+ * The values of writes: marks come before a write, so what it wrote is looked up when the action, or the piece of it, is over. Made by page/recording/lines.js,
+ * as its `values`.
+ */
 class Values {
   /** @param {import('./log').Log} log */
   constructor(log) {
@@ -74,7 +78,7 @@ class Values {
   }
 
   /**
-   * What is beside the line of an access.
+   * What is beside the line of an access. Called by page/recording/lines.js.
    * @param {string} mode
    * @param {import('../types').Found} found
    */
@@ -86,7 +90,10 @@ class Values {
     return `=${this.number}`;
   }
 
-  /** Writes the values that the writes so far have left. Called as an action or a piece of it ends. */
+  /**
+   * Writes the values that the writes so far have left. Called as an action or a piece of it ends. Called by page/recording/lines.js and
+   * page/recording/recording.js.
+   */
   write() {
     if (!this.open.length) return;
     const { open } = this;

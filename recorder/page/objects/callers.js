@@ -11,6 +11,7 @@ const MOST_KNOWN = 20000;
 /** Numbers of places with a call are below -1, which is no place. */
 const FIRST = -2;
 
+/** Made by objects.js, as its `callers`. */
 class Callers {
   /** @param {import('../types').Recording} recording */
   constructor(recording) {
@@ -26,7 +27,7 @@ class Callers {
   }
 
   /**
-   * A site, or the number of a site with the page's own call that led to it.
+   * A site, or the number of a site with the page's own call that led to it. Called by trees.js.
    * @param {number} site
    */
   placeOf(site) {
@@ -48,6 +49,7 @@ class Callers {
   }
 
   /**
+   * The number, below -1, for a site with the page's own call that led to it.
    * @param {number} site
    * @param {string} place of the call
    */
@@ -63,7 +65,7 @@ class Callers {
   }
 
   /**
-   * The place of an access, for its line.
+   * The place of an access, for its line. Called by waiting.js.
    * @param {number} site as `placeOf` gives it
    */
   siteOf(site) {
@@ -71,7 +73,7 @@ class Callers {
   }
 
   /**
-   * The number of the stack of an access, for its line; 0 if the page's own code makes it.
+   * The number of the stack of an access, for its line; 0 if the page's own code makes it. Called by waiting.js.
    * @param {number} site as `placeOf` gives it
    */
   stackOf(site) {

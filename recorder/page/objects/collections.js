@@ -23,7 +23,7 @@ class Collections {
   }
 
   /**
-   * A method that might be one of an array, a map or an element.
+   * A method that might be one of an array, a map or an element. Called by page/helpers/wholes.js.
    * @param {object} object
    * @param {string} name
    * @param {number} site
@@ -43,7 +43,7 @@ class Collections {
   }
 
   /**
-   * The first argument of a method, which is a key.
+   * The first argument of a method, which is a key. Called by page/helpers/wholes.js.
    * @param {object} object
    * @param {unknown} key
    * @param {number} site
@@ -60,7 +60,7 @@ class Collections {
 
   /**
    * `(items)` is which items an array has: a change of the array as a whole writes it, and every other access reads it. So an item that is put
-   * into its place and one in another place do not touch the same variable.
+   * into its place and one in another place do not touch the same variable. Called by properties.js.
    * @param {import('../types').Holder} holder
    * @param {import('../types').VariableName} name
    * @param {import('../types').Modes} modes
@@ -128,6 +128,7 @@ class Collections {
   }
 
   /**
+   * Records what a method of a map or a set does with one key: `get` and `has` read it, the others write it if they change something.
    * @param {import('../types').Holder} holder
    * @param {unknown} key
    * @param {number} site
@@ -148,7 +149,7 @@ class Collections {
   // ---- wholes
 
   /**
-   * Code asks for the names or items of an object: `for..in`, `Object.keys`.
+   * Code asks for the names or items of an object: `for..in`, `Object.keys`. Called by page/helpers/wholes.js.
    * @param {object} object
    * @param {number} site
    */
@@ -160,7 +161,7 @@ class Collections {
   }
 
   /**
-   * Code goes through an object: `for..of`, a spread into a list, a pattern of items.
+   * Code goes through an object: `for..of`, a spread into a list, a pattern of items. Called by page/helpers/wholes.js and patterns.js.
    * @param {object} object
    * @param {number} site
    */
@@ -171,7 +172,7 @@ class Collections {
   }
 
   /**
-   * Code reads all properties of an object: `{...a}`, `Object.assign`.
+   * Code reads all properties of an object: `{...a}`, `Object.assign`. Called by page/helpers/wholes.js and patterns.js.
    * @param {object} object
    * @param {number} site
    */
@@ -194,7 +195,7 @@ class Collections {
   }
 
   /**
-   * `Object.assign`: what is read of one object is written to another one.
+   * `Object.assign`: what is read of one object is written to another one. Called by page/helpers/wholes.js.
    * @param {unknown} target
    * @param {object} object
    * @param {number} site

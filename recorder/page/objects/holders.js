@@ -12,7 +12,10 @@ const WRITE = 1;
 const KEPT = 2;
 /** A write that counts up or down, and whose value nobody uses. */
 const COUNTED = 3;
-/** @param {number} mode */
+/**
+ * Called by waiting.js.
+ * @param {number} mode
+ */
 const isWrite = (mode) => (mode & 1) !== 0;
 
 /** What kind of thing has variables. From LEFT_OUT on nothing is recorded of it. */
@@ -107,7 +110,7 @@ class Holder {
   }
 
   /**
-   * The variable of a name, or null.
+   * The variable of a name, or null. Called by properties.js.
    * @param {import('../types').VariableName} name
    * @returns {Variable|null}
    */
@@ -120,7 +123,7 @@ class Holder {
   }
 
   /**
-   * Makes the variable of a name.
+   * Makes the variable of a name. Called by properties.js.
    * @param {import('../types').VariableName} name that it has not
    */
   add(name) {
@@ -163,14 +166,20 @@ class Holder {
 }
 
 /**
- * An access as one number: its action, and whether it reads, writes, or writes what was there.
+ * An access as one number: its action, and whether it reads, writes, or writes what was there. Called by variables.js.
  * @param {number} action
  * @param {number} mode
  */
 const accessOf = (action, mode) => 4 * action + mode;
-/** @param {number} access */
+/**
+ * Called by waiting.js.
+ * @param {number} access
+ */
 const actionOf = (access) => access >> 2;
-/** @param {number} access */
+/**
+ * Called by waiting.js.
+ * @param {number} access
+ */
 const modeOf = (access) => access & 3;
 
 export {

@@ -30,7 +30,7 @@ class Kinds {
   // ---- what is known before the page runs
 
   /**
-   * The browser's own prototypes are known as they are met; those that show the kind of an object are known before.
+   * The browser's own prototypes are known as they are met; those that show the kind of an object are known before. Called by objects.js.
    * @param {import('../types').Page} page
    */
   addWindow({ window }) {
@@ -78,7 +78,7 @@ class Kinds {
   // ---- objects
 
   /**
-   * A prototype is the browser's if its constructor is. A page that changes methods of it is not seen.
+   * A prototype is the browser's if its constructor is. A page that changes methods of it is not seen. Called by properties.js.
    * @param {object} object
    * @returns {Holder}
    */
@@ -100,7 +100,7 @@ class Kinds {
   }
 
   /**
-   * The kind of an object that is not held yet (holders.js).
+   * The kind of an object that is not held yet (holders.js). Called by collections.js and properties.js.
    * @param {object} object
    * @returns {number}
    */
@@ -145,7 +145,7 @@ class Kinds {
   }
 
   /**
-   * An object is known by where code first met it: it might have been met before without a place.
+   * An object is known by where code first met it: it might have been met before without a place. Called by properties.js.
    * @param {Holder} holder
    * @param {number} site
    */
@@ -179,7 +179,7 @@ function isIterator(object) {
 }
 
 /**
- * Whether a property is a getter or a setter: what its code touches is written instead.
+ * Whether a property is a getter or a setter: what its code touches is written instead. Called by properties.js, trees.js and waiting.js.
  * @param {object} object
  * @param {import('../types').VariableName} name
  */

@@ -38,7 +38,7 @@ class MadeElements {
   }
 
   /**
-   * The getters of one window work for the nodes of all.
+   * The getters of one window work for the nodes of all. Called by trees.js.
    * @param {import('../types').PageWindow} window
    */
   takeGetters(window) {
@@ -46,7 +46,7 @@ class MadeElements {
   }
 
   /**
-   * The running action has made an element.
+   * The running action has made an element. Called by page/events/calls.js.
    * @param {Element} element
    */
   note(element) {
@@ -57,7 +57,7 @@ class MadeElements {
   }
 
   /**
-   * The action that made a node, or 0.
+   * The action that made a node, or 0. Called by kinds.js.
    * @param {object} node
    */
   makerOf(node) {
@@ -77,7 +77,7 @@ class MadeElements {
   }
 
   /**
-   * The running action has looked something up: it has one node, or a list of nodes.
+   * The running action has looked something up: it has one node, or a list of nodes. Called by page/accesses/lookups.js.
    * @param {unknown} found
    */
   noteResult(found) {
@@ -88,7 +88,7 @@ class MadeElements {
   }
 
   /**
-   * Code reads a property of a node, by which it may go to another one.
+   * Code reads a property of a node, by which it may go to another one. Called by trees.js.
    * @param {Node} node
    * @param {import('../types').VariableName} name
    */

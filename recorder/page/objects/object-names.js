@@ -26,7 +26,7 @@ class ObjectNames {
   }
 
   /**
-   * The number in locations; if it is new, the log says what has it.
+   * The number in locations; if it is new, the log says what has it. Called by waiting.js.
    * @param {import('../types').Holder} holder
    * @returns {number}
    */
@@ -43,7 +43,7 @@ class ObjectNames {
   }
 
   /**
-   * Writes what OUT.names.json has of an object that has a number.
+   * Writes what OUT.names.json has of an object that has a number. Called by kinds.js.
    * @param {import('../types').Holder} holder
    */
   write(holder) {
@@ -51,7 +51,7 @@ class ObjectNames {
   }
 
   /**
-   * Variables that only libraries touch are left out of objects that code made, and not of windows and the page's tree.
+   * Variables that only libraries touch are left out of objects that code made, and not of windows and the page's tree. Called by waiting.js.
    * @param {import('../types').Holder} holder
    * @param {import('../types').Variable} variable
    */
@@ -94,7 +94,7 @@ class ObjectNames {
   }
 
   /**
-   * A key of a map as a name. An object is known by its number; a symbol has none.
+   * A key of a map as a name. An object is known by its number; a symbol has none. Called by collections.js.
    * @param {unknown} key
    */
   ofKey(key) {

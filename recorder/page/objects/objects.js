@@ -43,12 +43,12 @@ class Objects {
     this.kinds.holders.set(page.window, page.globals.holder);
   }
 
-  /** The running action is over. */
+  /** The running action is over. Called by page/recording/lines.js. */
   settleWrites() {
     this.variables.settleWrites();
   }
 
-  /** The lines so far are wanted, and the action can go on. */
+  /** The lines so far are wanted, and the action can go on. Called by page/recording/recording.js. */
   settleEarly() {
     this.variables.settleEarly();
     this.recording.startPiece();

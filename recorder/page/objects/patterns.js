@@ -23,7 +23,7 @@ class Patterns {
   }
 
   /**
-   * The shape in the text that a mark has, read once.
+   * The shape in the text that a mark has, read once. Called by page/helpers/wholes.js.
    * @param {string} text
    */
   shapeOf(text) {
@@ -35,7 +35,7 @@ class Patterns {
   }
 
   /**
-   * Records what a pattern reads of an object.
+   * Records what a pattern reads of an object. Called by page/helpers/wholes.js.
    * @param {object} object
    * @param {number} site
    * @param {Shape} shape
@@ -46,6 +46,7 @@ class Patterns {
   }
 
   /**
+   * Records what an array's pattern reads: its items, or with a rest the whole array.
    * @param {object} object
    * @param {number} site
    * @param {Shape} shape
@@ -90,7 +91,7 @@ class Patterns {
   }
 
   /**
-   * A loop over an array takes each of its items apart.
+   * A loop over an array takes each of its items apart. Called by page/helpers/wholes.js.
    * @param {object} object
    * @param {number} site
    * @param {Shape} shape

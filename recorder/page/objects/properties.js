@@ -21,7 +21,7 @@ class Properties {
   }
 
   /**
-   * An access by a name or a key that is known.
+   * An access by a name or a key that is known. Called by page/helpers/properties.js, collections.js and patterns.js.
    * @param {object} object
    * @param {import('../types').VariableName} name
    * @param {import('../types').Modes} modes
@@ -81,7 +81,7 @@ class Properties {
   }
 
   /**
-   * The recorder of the window whose storage an object is, if it is one.
+   * The recorder of the window whose storage an object is, if it is one. Called by kinds.js.
    * @param {object} object
    */
   fieldsOf(object) {
@@ -117,7 +117,7 @@ class Properties {
   }
 
   /**
-   * A read by a name: of the object that has it, or of all that were looked at if none has it.
+   * A read by a name: of the object that has it, or of all that were looked at if none has it. Called by collections.js.
    * @param {object} object
    * @param {import('../types').VariableName} name
    * @param {number} site

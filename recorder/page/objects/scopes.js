@@ -11,6 +11,7 @@ import { markOfStaged } from './sites.js';
  */
 let holderOf;
 
+/** Made by page/helpers/scopes.js. */
 class Scope {
   #site;
   #number;
@@ -53,7 +54,7 @@ class Scopes {
   }
 
   /**
-   * A read that is due at its site.
+   * A read that is due at its site. Called by page/helpers/scopes.js.
    * @param {unknown} scope
    * @param {string} name
    * @param {number} site
@@ -64,7 +65,7 @@ class Scopes {
   }
 
   /**
-   * A read at a site that might have had the scope in the running piece.
+   * A read at a site that might have had the scope in the running piece. Called by page/accesses/imports.js.
    * @param {unknown} scope
    * @param {string} name
    * @param {number} site
@@ -74,7 +75,7 @@ class Scopes {
   }
 
   /**
-   * A write that is due at its site.
+   * A write that is due at its site. Called by page/helpers/scopes.js.
    * @param {unknown} scope
    * @param {string} name
    * @param {number} site
@@ -95,7 +96,7 @@ class Scopes {
   }
 
   /**
-   * The first value of a variable (KEEPS_ALL).
+   * The first value of a variable (KEEPS_ALL). Called by page/helpers/wholes.js.
    * @param {unknown} scope
    * @param {string} name
    * @param {number} site

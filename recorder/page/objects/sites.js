@@ -11,7 +11,10 @@ const MOST_OBJECTS_OF_SITE = 2000;
 const ALL_OTHERS = 1 << SINGLE_ITEMS;
 const ALL_ITEMS = 2 * ALL_OTHERS - 1;
 
-/** @param {number} item */
+/**
+ * Called by page/helpers/properties.js.
+ * @param {number} item
+ */
 const bitOf = (item) => 1 << (item < SINGLE_ITEMS ? item : SINGLE_ITEMS);
 /**
  * The mark of a site for the place of its write, and the place for a mark: below zero if the other one is not.
@@ -26,7 +29,8 @@ const fullIn = (piece) => -1 - piece;
 
 /**
  * What each site had in the running piece: `objects`, the last one, or null; `keys`, its last key; `marks`, the bits of the items, or `markOfStaged` of its
- * write. And how many objects it had in which action. Each list has an entry for each site of the page's scripts, so there are few lists.
+ * write. And how many objects it had in which action. Each list has an entry for each site of the page's scripts, so there are few lists. Made by
+ * objects.js, as its `sites`.
  */
 class Sites {
   /** @param {import('../types').Recording} recording */
@@ -116,7 +120,7 @@ class Sites {
   }
 
   /**
-   * The site has had a key of its object.
+   * The site has had a key of its object. Called by page/helpers/properties.js.
    * @param {object} object
    * @param {import('../types').VariableName} key
    * @param {number} site

@@ -78,7 +78,7 @@ class Trees {
   }
 
   /**
-   * The elements of each frame have getters of their own.
+   * The elements of each frame have getters of their own. Called by objects.js.
    * @param {import('../types').Page} page
    */
   addWindow(page) {
@@ -94,7 +94,7 @@ class Trees {
   }
 
   /**
-   * Whether it is a node: a prototype of an element is none itself.
+   * Whether it is a node: a prototype of an element is none itself. Called by kinds.js.
    * @param {object} object
    * @returns {boolean}
    */
@@ -107,7 +107,7 @@ class Trees {
   }
 
   /**
-   * The number of a node, which a reader of the trace can know by its tag and id.
+   * The number of a node, which a reader of the trace can know by its tag and id. Called by object-names.js.
    * @param {Node} node
    */
   number(node) {
@@ -120,7 +120,7 @@ class Trees {
   // ---- what marked code touches
 
   /**
-   * Records an access to a property of a node: what it shows of the tree, or one that scripts put there.
+   * Records an access to a property of a node: what it shows of the tree, or one that scripts put there. Called by properties.js.
    * @param {any} node of the page
    * @param {import('../types').VariableName} name
    * @param {import('../types').Modes} modes
@@ -192,7 +192,7 @@ class Trees {
   }
 
   /**
-   * A style, the classes or the data of an element.
+   * A style, the classes or the data of an element. Called by collections.js and properties.js.
    * @param {import('../types').Holder} owner
    * @param {object} part
    * @param {import('../types').VariableName} name
@@ -222,7 +222,7 @@ class Trees {
   }
 
   /**
-   * Records what `getAttribute(key)` and the like touch.
+   * Records what `getAttribute(key)` and the like touch. Called by collections.js.
    * @param {import('../types').Holder} holder
    * @param {unknown} key
    * @param {string} method
@@ -233,7 +233,7 @@ class Trees {
   }
 
   /**
-   * The value of a variable of an element, without a call of the page's code.
+   * The value of a variable of an element, without a call of the page's code. Called by variables.js.
    * @param {Element} node
    * @param {import('../types').VariableName} name
    * @returns {unknown}
@@ -260,7 +260,7 @@ class Trees {
   // ---- changes
 
   /**
-   * Records a change that the observer has seen.
+   * Records a change that the observer has seen. Called by page/document/tree.js.
    * @param {MutationRecord} change
    */
   noteChange({ target, type, attributeName, oldValue }) {

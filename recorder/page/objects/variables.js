@@ -1,5 +1,5 @@
-// Accesses of the running action to variables: which of them count, what a write has changed when the action is over, and writes that only
-// move a counter. Repeated reads and writes in one action are written once.
+// Accesses of the running action to variables: which of them count, what a write has changed when the action is over, and writes that only move a counter.
+// Repeated reads and writes in one action (in one handler or callback) are written once.
 
 import { settings } from '../core/settings.js';
 import { Object, getOwnPropertyDescriptor } from '../core/taken.js';
@@ -40,7 +40,7 @@ class Variables {
   }
 
   /**
-   * Records what an expression does with the variable of a name.
+   * Records what an expression does with the variable of a name. Called by collections.js, properties.js and trees.js.
    * @param {import('../types').Holder} holder
    * @param {import('../types').VariableName} name
    * @param {import('../types').Modes} modes
@@ -57,7 +57,7 @@ class Variables {
   }
 
   /**
-   * A count whose value nobody uses, as `n++` in a statement: two counts have the same result in either order.
+   * A count whose value nobody uses, as `n++` in a statement: two counts have the same result in either order. Called by properties.js.
    * @param {import('../types').Holder} holder
    * @param {import('../types').Variable} variable
    * @param {number} site
@@ -70,7 +70,7 @@ class Variables {
   }
 
   /**
-   * Whether the running action has done nothing with a variable except to count it.
+   * Whether the running action has done nothing with a variable except to count it. Called by page/accesses/globals.js and scopes.js.
    * @param {import('../types').Variable} variable
    */
   isOnlyCounted({ flags, lastRead, lastWrite }) {
@@ -79,7 +79,8 @@ class Variables {
   }
 
   /**
-   * An access of the running action. A read of what this action itself has written says nothing about another action.
+   * An access of the running action. A read of what this action itself has written says nothing about another action. Called by collections.js, properties.js
+   * and trees.js.
    * @param {import('../types').Holder} holder
    * @param {import('../types').Variable} variable
    * @param {number} mode
@@ -112,7 +113,7 @@ class Variables {
   }
 
   /**
-   * The read of an expression that has changed the variable already.
+   * The read of an expression that has changed the variable already. Called by page/accesses/globals.js and scopes.js.
    * @param {import('../types').Holder} holder
    * @param {import('../types').Variable} variable
    * @param {number} site
@@ -140,7 +141,7 @@ class Variables {
   }
 
   /**
-   * A write that is about to come, or has come.
+   * A write that is about to come, or has come. Called by page/accesses/globals.js, scopes.js and trees.js.
    * @param {import('../types').Holder} holder
    * @param {import('../types').Variable} variable
    * @param {number} site
@@ -166,7 +167,7 @@ class Variables {
   }
 
   /**
-   * Where the value after a write of the running action is stored.
+   * Where the value after a write of the running action is stored. Called by scopes.js.
    * @param {import('../types').Variable} variable
    */
   placeOfStaged(variable) {
@@ -193,7 +194,7 @@ class Variables {
   /**
    * The running action is over. A write after which the variable has the same value as before is written as a read: libraries make one when they replace
    * something for the time of a call. An action that really writes the variable still has a race with this one, and an action that only reads it finds
-   * the same value in either order.
+   * the same value in either order. Called by objects.js.
    */
   settleWrites() {
     const { staged } = this;
@@ -205,6 +206,7 @@ class Variables {
   }
 
   /**
+   * A write whose action, or piece of it, is over: `after` is what it left. If that is the value from before, it counts as a read.
    * @param {import('../types').Holder} holder
    * @param {import('../types').Variable} variable
    * @param {number} site
@@ -222,7 +224,7 @@ class Variables {
     this.waiting.settle(holder, variable, access, site, valueFor(holder, after), valueFor(holder, before));
   }
 
-  /** Between two batches of lines the action can go on: its writes after that are other writes. */
+  /** Between two batches of lines the action can go on: its writes after that are other writes. Called by objects.js. */
   settleEarly() {
     const { staged } = this;
     for (let k = 0; k < staged.length; k += OF_STAGED) staged[k + 1].lastWrite = 0;

@@ -19,6 +19,7 @@ const MOST_WAITING = 4000;
 /** An access that waits is four entries of a list: the access as a number, its place, the values after and before it. */
 const OF_WAITING = 4;
 
+/** Made by variables.js, as its `waiting`. */
 class Waiting {
   /** @param {import('../types').Objects} objects */
   constructor(objects) {
@@ -29,7 +30,7 @@ class Waiting {
   }
 
   /**
-   * An access whose values are known: it is written if its variable might race, else it waits.
+   * An access whose values are known: it is written if its variable might race, else it waits. Called by variables.js.
    * @param {import('../types').Holder} holder
    * @param {import('../types').Variable} variable
    * @param {number} access
@@ -71,7 +72,8 @@ class Waiting {
   }
 
   /**
-   * Another action has found an element where it might have been missing: what the action that made the element has done with it counts from now on.
+   * Another action has found an element where it might have been missing: what the action that made the element has done with it counts from now on. Called by
+   * made-elements.js.
    * @param {import('../types').Holder} holder
    */
   release(holder) {
@@ -150,7 +152,7 @@ class Waiting {
   // ---- all accesses (KEEPS_ALL)
 
   /**
-   * Writes an access in its own place, whatever the rules say of it.
+   * Writes an access in its own place, whatever the rules say of it. Called by scopes.js and variables.js.
    * @param {import('../types').Holder} holder
    * @param {import('../types').Variable} variable
    * @param {'r'|'w'} mode
@@ -162,7 +164,7 @@ class Waiting {
   }
 
   /**
-   * Writes the properties in the literal of an object or an array.
+   * Writes the properties in the literal of an object or an array. Called by page/helpers/wholes.js.
    * @param {import('../types').Holder} holder
    * @param {number} site
    */

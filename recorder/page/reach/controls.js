@@ -64,7 +64,7 @@ class Controls {
   // ---- what enables a control
 
   /**
-   * An element has come into the document, or to another place in it.
+   * An element has come into the document, or to another place in it. Called by page/document/tree.js.
    * @param {Element} element
    * @param {Maker} maker
    */
@@ -75,7 +75,7 @@ class Controls {
   }
 
   /**
-   * The attribute `disabled` of an element has come, gone or been set again.
+   * The attribute `disabled` of an element has come, gone or been set again. Called by page/document/tree.js.
    * @param {Element} element
    * @param {string|null} oldValue
    * @param {Maker} maker
@@ -132,7 +132,8 @@ class Controls {
   }
 
   /**
-   * The number of the element that stands for the target of an act, after what enabled and what showed it, or 0. The dispatch begins after these.
+   * The number of the element that stands for the target of an act, after what enabled and what showed it, or 0. The dispatch begins after these. Called by
+   * page/events/dispatches.js.
    * @param {EventDispatch} dispatch
    */
   standIn(dispatch) {

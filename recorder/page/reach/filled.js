@@ -30,7 +30,7 @@ class Filled {
   }
 
   /**
-   * The parse step before which an element had no size, or null.
+   * The parse step before which an element had no size, or null. Called by reach.js.
    * @param {Element} element that the parser made, and that no code has changed
    * @returns {import('../types').Moment|null}
    */

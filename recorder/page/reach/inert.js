@@ -17,7 +17,7 @@ class Inert {
     this.found = null;
   }
 
-  /** A look begins. */
+  /** A look begins. Called by reach.js. */
   begin() {
     this.found = null;
   }
@@ -32,7 +32,7 @@ class Inert {
   }
 
   /**
-   * Whether an element is inert, by what `find` found in this look.
+   * Whether an element is inert, by what `find` found in this look. Called by reach.js.
    * @param {Element} element
    */
   has(element) {

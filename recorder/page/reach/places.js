@@ -1,4 +1,4 @@
-// Whether a pointer finds an element, as the browser says: `pointer-events`, size, clips, and others that lie over it.
+// Whether a pointer finds an element, as the browser says: `pointer-events`, size, clips, and others that lie over it (an overlay).
 
 import { findItem } from '../core/lists.js';
 import { fits } from '../core/strings.js';
@@ -49,14 +49,14 @@ class Places {
     this.curtain = undefined;
   }
 
-  /** A look begins. */
+  /** A look begins. Called by reach.js. */
   begin() {
     this.time++;
     this.curtain = undefined;
   }
 
   /**
-   * Notes when an element came, for `wasThereBefore`: each of the parser's has a time of its own.
+   * Notes when an element came, for `wasThereBefore`: each of the parser's has a time of its own. Called by reach.js.
    * @param {Element} element
    * @param {boolean} isMade whether code has put it there
    */
@@ -77,13 +77,13 @@ class Places {
     return first !== undefined && second !== undefined && first <= second;
   }
 
-  /** Whether the questions have taken too long for a further one. */
+  /** Whether the questions have taken too long for a further one. Called by reach.js. */
   isExhausted() {
     return this.lookTime > LONGEST_LOOK && this.questions > FREE_QUESTIONS;
   }
 
   /**
-   * Whether a user aims at an element: a control, a link, or a part of one.
+   * Whether a user aims at an element: a control, a link, or a part of one. Called by reach.js.
    * @param {Element} element
    */
   isAimedAt(element) {
@@ -91,7 +91,7 @@ class Places {
   }
 
   /**
-   * Whether a pointer finds an element, now or when the user scrolls. In doubt it does.
+   * Whether a pointer finds an element, now or when the user scrolls. In doubt it does. Called by reach.js.
    * @param {Element} element
    */
   isForPointer(element) {
@@ -103,7 +103,10 @@ class Places {
     return isFound;
   }
 
-  /** @param {Element} element */
+  /**
+   * Whether a pointer can find an element by its own box: its size, its place, and what lies over it.
+   * @param {Element} element
+   */
   #hasPlace(element) {
     const { natives, page: { window } } = this;
     const style = natives.getComputedStyle(element);
@@ -196,7 +199,10 @@ class Places {
     return !this.#isInLayer(element);
   }
 
-  /** @returns {Element|null} */
+  /**
+   * An element that fills the window and lies over everything (a curtain, as a loading screen), or null.
+   * @returns {Element|null}
+   */
   #findCurtain() {
     const { natives, page: { window, document } } = this;
     const at = (/** @type {number[]} */ { 0: x, 1: y }) => apply(natives.elementFromPoint, document, [x * window.innerWidth, y * window.innerHeight]);
@@ -240,7 +246,7 @@ class Places {
 }
 
 /**
- * The parent of a node; of a shadow tree, its host.
+ * The parent of a node; of a shadow tree, its host. Called by reach.js.
  * @param {import('../types').Natives} natives
  * @param {Node} node
  * @returns {Element|null}

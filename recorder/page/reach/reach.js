@@ -1,7 +1,7 @@
-// What a user can reach. An element that was hidden ever since it came, or that its code put into the page later than it made it, gets no act of a
-// user before code shows it: each act is after the code that did so first. The browser itself is asked, before the code of each task and after it:
-// what has changed meanwhile, that code has shown, and what changed outside of it (a style sheet, an animation, the pointer over a menu) may be
-// reached at any time.
+// What a user can reach, and from when on (a button that can be clicked or pressed). An element that was hidden ever since it came, or that its code put into
+// the page later than it made it, gets no act of a user before code shows it: each act is after the code that did so first. The browser itself is asked, before
+// the code of each task and after it: what has changed meanwhile, that code has shown, and what changed outside of it (a style sheet, an animation, the pointer
+// over a menu) may be reached at any time.
 
 import { each, findItem, keep, keysOf } from '../core/lists.js';
 import { fits } from '../core/strings.js';
@@ -68,7 +68,7 @@ class Reach {
   // ---- what comes
 
   /**
-   * An element has come into the document, or to another place in it.
+   * An element has come into the document, or to another place in it. Called by page/document/tree.js.
    * @param {Element} element
    * @param {Maker} maker
    */
@@ -83,12 +83,12 @@ class Reach {
 
   // ---- looks
 
-  /** Code of a task begins: what can be reached now has no cause that is known. */
+  /** Code of a task begins: what can be reached now has no cause that is known. Called by page/recording/recording.js. */
   lookBefore() {
     this.#look(null);
   }
 
-  /** Code of a task, and its jobs, are over: it has shown what can be reached now, and could not be before. */
+  /** Code of a task, and its jobs, are over: it has shown what can be reached now, and could not be before. Called by page/recording/recording.js. */
   lookAfter() {
     this.#look(this.recording.lastMoment());
   }
@@ -249,7 +249,7 @@ class Reach {
   // ---- acts
 
   /**
-   * What an act at an element comes after.
+   * What an act at an element comes after. Called by controls.js.
    * @param {Event} event
    * @param {Target} target
    * @returns {Moment[]}

@@ -14,7 +14,7 @@ class Joins {
   }
 
   /**
-   * Those of some actions that no rule is known to put before the running event, each event once.
+   * Those of some actions that no rule is known to put before the running event, each event once. Called by page/scripts/ready.js and page/tasks/jobs.js.
    * @param {import('../types').Moments|null|undefined} moments
    */
   needed(moments) {
@@ -30,7 +30,7 @@ class Joins {
   }
 
   /**
-   * A handler that is registered in an action, whenever that was.
+   * A handler that is registered in an action, whenever that was. Called by page/document/reactions.js and page/tasks/jobs.js.
    * @param {import('../types').Moment|null} moment
    * @param {import('../types').Facts} facts
    * @param {import('../types').Place} [place]
@@ -43,7 +43,8 @@ class Joins {
   }
 
   /**
-   * Writes empty handlers in the first group of a dispatch that has begun: those of greater groups come after the actions.
+   * Writes empty handlers in the first group of a dispatch that has begun: those of greater groups come after the actions. Called by page/reach/controls.js and
+   * page/tasks/jobs.js.
    * @param {import('../types').NewDispatch} dispatch
    * @param {import('../types').Moments|null|undefined} moments
    * @param {string|undefined} why
@@ -64,7 +65,7 @@ class Joins {
   }
 
   /**
-   * Called before the first handler of a dispatch.
+   * Called before the first handler of a dispatch. Called by page/events/dispatches.js, page/events/messages.js and page/events/queued.js.
    * @param {import('../types').NewDispatch} dispatch
    */
   tellOf(dispatch) {
@@ -92,7 +93,7 @@ class Joins {
   }
 
   /**
-   * Starts an inline dispatch at an element of its own.
+   * Starts an inline dispatch at an element of its own. Called by page/tasks/jobs.js.
    * @param {string} type
    * @param {import('../types').Facts} facts
    */

@@ -68,7 +68,7 @@ class Lines extends Shared {
   }
 
   /**
-   * A step of the parser of a document.
+   * A step of the parser of a document. Called by page/document/tree.js and page/page.js.
    * @param {number} document
    * @param {string} step
    */
@@ -78,7 +78,7 @@ class Lines extends Shared {
   }
 
   /**
-   * A step of the parser that makes no element of the page.
+   * A step of the parser that makes no element of the page. Called by page/document/reactions.js and page/document/texts.js.
    * @param {number} document
    * @param {import('../types').Facts} facts
    */
@@ -89,14 +89,14 @@ class Lines extends Shared {
     this.beginParse(document, `${number} plain`);
   }
 
-  /** Accesses that were looked at so far are looked at again. */
+  /** Accesses that were looked at so far are looked at again. Called by page/objects/objects.js. */
   startPiece() {
     this.pieces++;
     if (this.objects) this.objects.forget();
   }
 
   /**
-   * A handler of a dispatch has begun, or its close.
+   * A handler of a dispatch has begun, or its close. Called by page/events/dispatches.js, page/tasks/jobs.js, requests.js and joins.js.
    * @param {import('../types').NewDispatch} dispatch
    */
   noteInside(dispatch) {
@@ -136,7 +136,8 @@ class Lines extends Shared {
   }
 
   /**
-   * A note of an action that may be over; without one, of the first action of the trace.
+   * A note of an action that may be over; without one, of the first action of the trace. Called by page/accesses/fields.js, page/document/elements.js and
+   * joins.js.
    * @param {import('../types').Moment|null|undefined} moment
    * @param {string} line
    * @param {import('../types').Place} [place]

@@ -1,4 +1,4 @@
-// The dispatches that are not over, as a stack: which of them end before something else can be written.
+// The dispatches that are not over, as a stack of nested ones: which of them end before something else can be written.
 
 import { joined, takeFirst } from '../core/lists.js';
 import { Map, Set } from '../core/taken.js';
@@ -127,7 +127,10 @@ class OpenDispatches extends Lines {
     this.running = suspended;
   }
 
-  /** Dispatches that running code called, and that have returned to it, are over. */
+  /**
+   * Dispatches that running code called, and that have returned to it, are over. Called by page/document/attributes.js, page/events/capturing.js and
+   * page/events/on-handlers.js.
+   */
   finishReturned() {
     for (let top = this.top(); top && top.isInline && !top.active; top = this.top()) {
       if (!this.contexts.length || this.contexts.length > top.depth) return;
@@ -136,14 +139,14 @@ class OpenDispatches extends Lines {
   }
 
   /**
-   * All dispatches above a number are over, as a call that may have made them returns.
+   * All dispatches above a number are over, as a call that may have made them returns. Called by page/events/calls.js and page/events/dispatches.js.
    * @param {number} height
    */
   finishAbove(height) {
     for (let top = this.top(); top && this.dispatches.length > height && top.isInline && !top.active; top = this.top()) this.finishTop();
   }
 
-  /** All dispatches are over whose handlers do not run. */
+  /** All dispatches are over whose handlers do not run. Called by page/document/loading.js and page/document/tree.js. */
   finishAll() {
     for (let top = this.top(); top && !top.active; top = this.top()) this.finishTop();
   }

@@ -8,7 +8,7 @@ import { each, findItem, hasItem } from '../core/lists.js';
 const LONGEST_CHAIN = 20;
 
 /**
- * Whether rules are known to put an event before the running one: a short search along `after`.
+ * Whether rules are known to put an event before the running one: a short search along `after`. Called by page/events/queued.js and recording.js.
  * @param {TraceEvent} running
  * @param {TraceEvent} event
  */

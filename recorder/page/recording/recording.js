@@ -82,7 +82,7 @@ class Recording extends OpenDispatches {
     return this.lastMoment();
   }
 
-  /** The number of the action that makes something now, or 0 if nothing recorded runs. */
+  /** The number of the action that makes something now, or 0 if nothing recorded runs. Called by page/helpers/scopes.js and page/objects/made-elements.js. */
   makingAction() {
     if (this.isOver || !this.isRunning()) return 0;
     this.finishReturned();
@@ -100,7 +100,10 @@ class Recording extends OpenDispatches {
     if (this.mayAccess()) this.accessNow(mode, location, place, found);
   }
 
-  /** Whether an access can be written now. Dispatches that returned meanwhile are over then. */
+  /**
+   * Whether an access can be written now. Dispatches that returned meanwhile are over then. Called by page/accesses/globals.js, page/helpers/wholes.js and
+   * page/objects/sites.js.
+   */
   mayAccess() {
     if (this.isOver) return false;
     if (!this.isRunning()) {
@@ -148,7 +151,7 @@ class Recording extends OpenDispatches {
     this.log.sendIfDue(this.natives.now());
   }
 
-  /** The number of the task changes when this one is over. */
+  /** The number of the task changes when this one is over. Called by page/events/dispatches.js. */
   watchTask() {
     this.natives.postTask(() => { this.task++; });
   }
@@ -190,7 +193,7 @@ class Recording extends OpenDispatches {
     this.values.write();
   }
 
-  /** No code is on the stack: the microtasks of the running event run now. */
+  /** No code is on the stack: the microtasks of the running event run now. Called by page/tasks/jobs.js. */
   startCheckpoint() {
     this.turns = TURNS_OF_A_CHECKPOINT;
     if (this.tellsRejections) each(this.pages, ({ queued }) => queued.noteJobs(this.running));
@@ -222,7 +225,7 @@ class Recording extends OpenDispatches {
     this.flush();
   }
 
-  /** Sends everything so far, if the page is asked for it while the recording goes on. */
+  /** Sends everything so far, if the page is asked for it while the recording goes on. Called by page/main.js. */
   flush() {
     if (this.objects) this.objects.settleEarly();
     this.log.sendAll(this.natives.now());

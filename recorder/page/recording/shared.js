@@ -3,7 +3,7 @@
 import { settings } from '../core/settings.js';
 import { Set, WeakMap, WeakSet } from '../core/taken.js';
 
-/** The base of `Recording`. */
+/** The base of `Recording`. Extended by lines.js. */
 class Shared {
   constructor() {
     /**
@@ -65,7 +65,7 @@ class Shared {
     this.hasOtherSenders = settings.isDriven;
   }
 
-  /** Whose code calls `postMessage` now, if that is known: no later call has this poster. */
+  /** Whose code calls `postMessage` now, if that is known: no later call has this poster. Called by page/events/messages.js. */
   takePoster() {
     const { poster } = this;
     this.poster = null;

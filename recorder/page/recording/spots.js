@@ -26,7 +26,7 @@ function areAt(calls, spots) {
 }
 
 /**
- * A test for holds: whether the running code is theirs, by the way of its calls, else by its place.
+ * A test for holds: whether the running code is theirs, by the way of its calls, else by its place. Called by steering.js.
  * @returns {(hold: import('../types').Hold) => boolean}
  */
 function testOfCode() {

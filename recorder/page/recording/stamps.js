@@ -8,6 +8,7 @@ import { apply } from '../core/taken.js';
 const stampOf = (window) => window.console.timeStamp.bind(window.console);
 
 /**
+ * Called by page/main.js.
  * @param {PageWindow} window the page's own, not that of a frame
  * @param {import('../types').Recording} recording
  */
@@ -33,7 +34,7 @@ function stampActions(window, recording) {
 }
 
 /**
- * What the recorder itself has a window call back.
+ * What the recorder itself has a window call back. Called by page/main.js.
  * @param {PageWindow} window the page's own, or that of a frame
  * @param {import('../types').Natives} natives of this window
  */

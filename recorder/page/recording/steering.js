@@ -1,4 +1,4 @@
-// Steering of a replay: some things that the page requests are held back until the driver releases them. A plain recording holds nothing back.
+// Steering of a replay (`recording.steering`, made by recording.js): holds things back that the page requests, until the driver releases them; else nothing.
 
 import { each, findItem, joined, keep } from '../core/lists.js';
 import { settings } from '../core/settings.js';
@@ -49,7 +49,7 @@ class Steering {
   // ---- what is held back
 
   /**
-   * Holds things back from now on. A hold that is known gets the places of its code, if that is instrumented only now.
+   * Holds things back from now on. A hold that is known gets the places of its code, if that is instrumented only now. Called by driven/load-steering.js.
    * @param {(import('../types').Hold|null)[]} holds
    */
   expect(holds, isOfPage = false) {
@@ -62,7 +62,7 @@ class Steering {
   }
 
   /**
-   * The hold of what the running code requests now, or undefined.
+   * The hold of what the running code requests now, or undefined. Called by page/events/messages.js, page/tasks/observers.js and page/tasks/timers.js.
    * @param {string} word
    */
   asks(word) {
@@ -84,7 +84,7 @@ class Steering {
   }
 
   /**
-   * A callback that waits, if it is held back, until it is released; `again` requests it once more from the browser then.
+   * A callback that waits, if it is held back, until it is released; `again` requests it once more from the browser then. Called by page/tasks/timers.js.
    * @param {import('../types').Held|undefined} hold
    * @param {import('../types').Callback} run
    * @param {(run: import('../types').Callback) => void} again
@@ -99,7 +99,7 @@ class Steering {
   }
 
   /**
-   * A callback that runs only as often as the replay says.
+   * A callback that runs only as often as the replay says. Called by page/tasks/timers.js.
    * @param {string} word
    * @param {import('../types').Callback} run
    * @returns {import('../types').Callback}
@@ -113,7 +113,7 @@ class Steering {
   }
 
   /**
-   * Notes what the browser's function for the callback returned to the page, with which the page can clear it.
+   * Notes what the browser's function for the callback returned to the page, with which the page can clear it. Called by page/tasks/timers.js.
    * @param {import('../types').Held|undefined} hold
    * @param {import('../types').PageWindow} window
    * @param {string} queue whose numbers it has, of clearing.js
@@ -133,7 +133,7 @@ class Steering {
   }
 
   /**
-   * Sends a message, or holds it back; messages that are posted to the same receiver meanwhile come after it.
+   * Sends a message, or holds it back; messages that are posted to the same receiver meanwhile come after it. Called by page/events/messages.js.
    * @param {import('../types').Held|undefined} hold
    * @param {unknown} receiver
    * @param {() => void} send
@@ -146,7 +146,7 @@ class Steering {
   }
 
   /**
-   * The window's load waits for an image that the driver holds back. It is nowhere in the page.
+   * The window's load waits for an image that the driver holds back. It is nowhere in the page. Called by page/page.js.
    * @param {import('../types').Page} page
    */
   holdLoad(page) {
@@ -168,7 +168,7 @@ class Steering {
   }
 
   /**
-   * A handler is registered at a target. An event of a target that is no element can be held back.
+   * A handler is registered at a target. An event of a target that is no element can be held back. Called by page/events/handlers.js.
    * @param {EventTarget} target
    * @param {string} type
    */
@@ -193,7 +193,7 @@ class Steering {
   }
 
   /**
-   * Whether an event is held back: it, or one before it at the same target. Its handlers do not run then.
+   * Whether an event is held back: it, or one before it at the same target. Its handlers do not run then. Called by page/events/capturing.js.
    * @param {Event} event
    */
   keepsEvent(event) {
@@ -246,7 +246,7 @@ class Steering {
   }
 
   /**
-   * Runs the callback of an observer, or holds it back with all later ones of the same observer.
+   * Runs the callback of an observer, or holds it back with all later ones of the same observer. Called by page/tasks/observers.js.
    * @param {import('../types').Held|undefined} hold
    * @param {() => void} run
    */
@@ -256,7 +256,7 @@ class Steering {
   }
 
   /**
-   * If a transaction of a database is held back, one of the recorder's own locks its stores. It changes nothing.
+   * If a transaction of a database is held back, one of the recorder's own locks its stores. It changes nothing. Called by page/tasks/connections.js.
    * @param {IDBDatabase} database
    * @param {string|ArrayLike<string>} stores
    */
@@ -285,13 +285,13 @@ class Steering {
 
   // ---- the script elements at which the parser waits, which are not of the page
 
-  /** Whether a node is such an element. */
+  /** Whether a node is such an element. Called by page/document/tree.js. */
   isHold(/** @type {Node} */ node) {
     const element = /** @type {Element} */ (node);
     return this.isActive && element.localName === 'script' && apply(this.natives.hasAttribute, element, ['data-er-hold']);
   }
 
-  /** Such an element has done its work. */
+  /** Such an element has done its work. Called by page/helpers/runs.js. */
   removeHold(/** @type {Element} */ script) {
     apply(this.natives.remove, script, []);
   }

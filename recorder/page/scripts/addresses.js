@@ -32,7 +32,7 @@ class Addresses {
   }
 
   /**
-   * A link that a script made gets the same marks as one in the page's text.
+   * A link that a script made gets the same marks as one in the page's text. Called by page/events/on-handlers.js.
    * @param {Element} element
    * @param {string} name of the attribute
    */
@@ -59,7 +59,7 @@ class Addresses {
   }
 
   /**
-   * A click or a submit begins: the browser may run a `javascript:` address after it.
+   * A click or a submit begins: the browser may run a `javascript:` address after it. Called by page/events/dispatches.js.
    * @param {import('../events/dispatches.js').EventDispatch} dispatch
    * @param {EventTarget[]} path
    */

@@ -5,6 +5,7 @@ import { withoutMarks } from '../core/marks.js';
 import { fits, withoutFragment } from '../core/strings.js';
 import { apply } from '../core/taken.js';
 
+/** Made by page/page.js, as its `broken`. */
 class Broken {
   /** @param {import('../types').Page} page */
   constructor(page) {
@@ -14,7 +15,7 @@ class Broken {
   }
 
   /**
-   * An error of the window because a script is no JavaScript: it belongs to the script's empty run.
+   * An error of the window because a script is no JavaScript: it belongs to the script's empty run. Called by page/events/capturing.js.
    * @param {ErrorEvent} event
    */
   run({ filename, message }) {

@@ -25,7 +25,8 @@ class InOrder {
   }
 
   /**
-   * A script is inserted that has a source, or is a module. It runs after the one before, where that one is inserted before it in any run of the page.
+   * A script is inserted that has a source, or is a module. It runs after the one before, where that one is inserted before it in any run of the page. Called
+   * by page/document/tree.js and insertions.js.
    * @param {Element} element
    * @param {number} number
    */
@@ -60,7 +61,7 @@ class InOrder {
   }
 
   /**
-   * A script's run comes after those that the browser runs before it.
+   * A script's run comes after those that the browser runs before it. Called by modules.js and scripts.js.
    * @param {number} number
    */
   begins(number) {
@@ -69,7 +70,7 @@ class InOrder {
   }
 
   /**
-   * The run of a script is over, or its load event.
+   * The run of a script is over, or its load event. Called by page/document/loading.js, modules.js and scripts.js.
    * @param {number} number
    */
   ends(number) {

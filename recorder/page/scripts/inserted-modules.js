@@ -1,4 +1,4 @@
-// Inline modules that a script inserts. Their texts are those of the page, so each gets a mark at its start, which shows when it runs.
+// Inline modules (`<script type=module>`) that a script inserts. Their texts are those of the page, so each gets a mark at its start, which shows when it runs.
 
 import { markIn, withoutMarks } from '../core/marks.js';
 import { apply } from '../core/taken.js';
@@ -20,7 +20,7 @@ class InsertedModules {
   }
 
   /**
-   * A node is to be inserted: the browser takes the text of a script then.
+   * A node is to be inserted: the browser takes the text of a script then. Called by page/events/calls.js.
    * @param {unknown} node
    */
   prepare(node) {
@@ -46,7 +46,7 @@ class InsertedModules {
   }
 
   /**
-   * One begins to run: its text says so.
+   * One begins to run: its text says so. Called by page/helpers/runs.js.
    * @param {number} number
    */
   begins(number) {

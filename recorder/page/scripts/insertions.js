@@ -31,13 +31,13 @@ class Insertions {
     this.made = new WeakSet();
   }
 
-  /** A call of the page has made an element, which can be a script. */
+  /** A call of the page has made an element, which can be a script. Called by page/document/made.js and page/events/calls.js. */
   noteMade(/** @type {Element} */ element) {
     if (element.localName === 'script') this.made.add(element);
   }
 
   /**
-   * A script is inserted. Returns whether it starts by that, and runs later.
+   * A script is inserted. Returns whether it starts by that, and runs later. Called by page/document/tree.js.
    * @param {Element} element
    */
   starts(element) {
@@ -53,7 +53,7 @@ class Insertions {
   }
 
   /**
-   * A script that is declared already is inserted: its run comes after that.
+   * A script that is declared already is inserted: its run comes after that. Called by page/document/tree.js.
    * @param {Element} element
    */
   noteDeclared(element) {
@@ -79,7 +79,7 @@ class Insertions {
   }
 
   /**
-   * A script gets a source: one that is in the document starts.
+   * A script gets a source: one that is in the document starts. Called by page/document/sources.js.
    * @param {Element} element
    */
   noteSource(element) {

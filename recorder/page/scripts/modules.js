@@ -1,4 +1,4 @@
-// Runs of modules, and `import()`. ES modules (`<script type=module>`), also with a top-level `await`.
+// Runs of modules, and `import()` (dynamic imports). ES modules (`<script type=module>`), also with a top-level `await`.
 
 import { each, findItem, hasItem, joined, takeFirst } from '../core/lists.js';
 import { fits, indexIn } from '../core/strings.js';
@@ -43,7 +43,7 @@ class Modules {
   /**
    * A module's body begins. The modules that a script imports run in the same turn before it, so which element runs is known with the last one:
    * until then the run's line has a number of its own, which `is` names later. If one of them waits for something, what imports it runs later, as
-   * a job.
+   * a job. Called by page/helpers/runs.js and scripts.js.
    * @param {string} address
    * @param {number} site
    * @param {string[]} [sources] the modules that run before it, as it names them
@@ -57,7 +57,10 @@ class Modules {
     this.page.joins.here(this.#endsOf(sources, address), 'the end of an imported module');
   }
 
-  /** @param {number} [site] */
+  /**
+   * The run of the module whose code is running: one that goes on after a wait, the running one, or a new one.
+   * @param {number} [site]
+   */
   #runNow(site) {
     const { recording } = this;
     const run = recording.moduleRun;
@@ -69,7 +72,7 @@ class Modules {
   }
 
   /**
-   * The text of a module that a script has inserted begins. No mark is at its end.
+   * The text of a module that a script has inserted begins. No mark is at its end. Called by inserted-modules.js.
    * @param {HTMLScriptElement} script
    */
   beginsInserted(script) {
@@ -205,7 +208,7 @@ class Modules {
     this.ended.set(address, end);
   }
 
-  /** The run of modules is over. */
+  /** The run of modules is over. Called by page/events/capturing.js. */
   close() {
     const { recording } = this;
     if (recording.moduleRun) this.page.inOrder.ends(recording.moduleRun.element);
@@ -213,7 +216,7 @@ class Modules {
     if (recording.contexts.length) recording.leave();
   }
 
-  /** Whether the body of a module runs, and nothing that it called. */
+  /** Whether the body of a module runs, and nothing that it called. Called by page/events/capturing.js. */
   isRunning() {
     const { contexts, moduleRun, running } = this.recording;
     return !!moduleRun && running === moduleRun.event && contexts.length === 1;
@@ -222,7 +225,7 @@ class Modules {
   // ---- import()
 
   /**
-   * `import()` is called: the run of its module comes after this, and what waits for it after the module's end.
+   * `import()` is called: the run of its module comes after this, and what waits for it after the module's end. Called by page/helpers/runs.js.
    * @param {unknown} specifier
    * @param {number} site
    * @param {string} [base]
@@ -246,7 +249,7 @@ class Modules {
   }
 
   /**
-   * The promise of an `import()` that was called now.
+   * The promise of an `import()` that was called now. Called by page/helpers/runs.js.
    * @param {Promise<unknown>} promise
    */
   noteImport(promise) {

@@ -24,7 +24,7 @@ class Ready {
   }
 
   /**
-   * A global variable is read, or has a value: the page might have jQuery by now.
+   * A global variable is read, or has a value: the page might have jQuery by now. Called by page/accesses/globals.js and page/accesses/unseen.js.
    * @param {string} name that of the variable
    */
   look(name) {

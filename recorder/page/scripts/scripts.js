@@ -79,7 +79,7 @@ class Scripts {
   }
 
   /**
-   * In the page a script has its text without marks: it has begun, and its text is not run again.
+   * In the page a script has its text without marks: it has begun, and its text is not run again. Called by modules.js.
    * @param {Element} element
    */
   showOwnText(element) {
@@ -94,7 +94,7 @@ class Scripts {
   }
 
   /**
-   * Writes that the script of an element runs, after what its kind comes after.
+   * Writes that the script of an element runs, after what its kind comes after. Called by broken.js.
    * @param {Element|null} element
    * @param {number} number
    * @param {number} [site]
@@ -113,7 +113,7 @@ class Scripts {
   }
 
   /**
-   * What is known of a run once it has begun: whether load waits for it, and that the script's load event is to come in it.
+   * What is known of a run once it has begun: whether load waits for it, and that the script's load event is to come in it. Called by modules.js.
    * @param {Element|null} element
    * @param {number} number
    */
@@ -145,7 +145,10 @@ class Scripts {
     recording.leave();
   }
 
-  /** The code that runs is over: if it is that of a script element, what waits for its run comes after this. Also called if it ends in an error. */
+  /**
+   * The code that runs is over: if it is that of a script element, what waits for its run comes after this. Also called if it ends in an error. Called by
+   * page/events/capturing.js.
+   */
   noteEnd() {
     const { recording } = this;
     if (recording.contexts.length === 1 && recording.running === this.last.event) this.#noteEndOf(this.last.number);
@@ -162,7 +165,7 @@ class Scripts {
   }
 
   /**
-   * A deferred script runs: the parser has nothing more to do for it, and for those before it, which have failed.
+   * A deferred script runs: the parser has nothing more to do for it, and for those before it, which have failed. Called by modules.js.
    * @param {number} number
    */
   noteDeferred(number) {
@@ -176,7 +179,8 @@ class Scripts {
   // ---- which element runs
 
   /**
-   * The element whose run this can be: a further `async` one if the format does not allow the script's own now, or if its source was set later.
+   * The element whose run this can be: a further `async` one if the format does not allow the script's own now, or if its source was set later. Called by
+   * modules.js.
    * @param {Element} element
    * @returns {number}
    */
@@ -198,7 +202,7 @@ class Scripts {
   }
 
   /**
-   * Why the run of a static script would be out of order, or ''.
+   * Why the run of a static script would be out of order, or ''. Called by broken.js.
    * @param {number} number
    * @param {string} kind
    */
@@ -216,7 +220,8 @@ class Scripts {
   // ---- load events and failures
 
   /**
-   * Whether the run of a script is the running event, and its load event belongs to the run: the parser, or DOMContentLoaded, waits for both.
+   * Whether the run of a script is the running event, and its load event belongs to the run: the parser, or DOMContentLoaded, waits for both. Called by
+   * page/document/loading.js.
    * @param {Element} element
    */
   isRunning(element) {
@@ -226,7 +231,8 @@ class Scripts {
   }
 
   /**
-   * A script for which the parser or DOMContentLoaded waits has failed: an empty run stands for it. Returns whether there can be one.
+   * A script for which the parser or DOMContentLoaded waits has failed: an empty run stands for it. Returns whether there can be one. Called by
+   * page/document/loading.js and broken.js.
    * @param {Element} element
    */
   runEmpty(element) {

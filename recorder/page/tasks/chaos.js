@@ -43,6 +43,7 @@ class Chaos {
     this.frame = { time: -1, isSkipped: false, inRow: 0 };
   }
 
+  /** Hooks what schedules, if the recording has `--chaos`. */
   start() {
     if (settings.chaos === null) return;
     const { window } = this.page;

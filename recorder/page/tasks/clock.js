@@ -1,4 +1,4 @@
-// A clock that a program puts in the place of the browser's, as test suites do: what it calls back has no timer.
+// A clock that a program puts in the place of the browser's, as test suites do (fake timers): what it calls back has no timer.
 
 const OTHER_CLOCK = 'clocks that a program put in the place of the browser\'s, whose callbacks have no timer';
 /** A library that only looks at timers, as zone.js, leaves the date. */
@@ -25,7 +25,7 @@ class Clock {
     return descriptor && 'value' in descriptor ? descriptor.value : descriptor?.get;
   }
 
-  /** Counts another clock, once. */
+  /** Counts another clock, once. Called by page/accesses/unseen.js. */
   look() {
     if (this.isOther || !this.own.length) return;
     const { 0: timeout, 1: date } = this.own;

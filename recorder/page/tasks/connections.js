@@ -1,5 +1,5 @@
 // What is opened or asked and answers with events, as a request does: EventSource, WebSocket, FileReader and IndexedDB. Incoming messages of a socket or a
-// stream, and `success` and `error` of a database request, come after the call.
+// stream, `open` and `close` of it, and `success` and `error` of a database request, come after the call.
 
 import { each, keep } from '../core/lists.js';
 import { replaceConstructor, replaceMethod } from '../core/replacing.js';
@@ -72,7 +72,8 @@ class Connections {
 
   /**
    * A reply begins. The requests of a transaction are answered one after the other, then the transaction ends; what has opened the database for a change
-   * of its version is answered after that. The events of such a change, which no call has asked for, are replies to the same request.
+   * of its version is answered after that. The events of such a change, which no call has asked for, are replies to the same request. Called by
+   * page/events/dispatches.js.
    * @param {import('../events/dispatches.js').EventDispatch} dispatch
    * @param {import('./requests.js').Request} request
    */
@@ -121,6 +122,7 @@ class Connections {
   }
 
   /**
+   * Hooks calls that are answered by events.
    * @param {[owner: string, names: string[]][]} owners
    * @param {(target: any, result: any) => EventTarget|null} answering where the events come, by whatever the call returns
    */

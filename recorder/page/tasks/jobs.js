@@ -39,7 +39,7 @@ class Jobs {
   // ---- what a job comes after
 
   /**
-   * What is known of a job as it is requested. Also for observers, reactions and `await`.
+   * What is known of a job as it is requested. Also for observers, reactions and `await`. Called by page/helpers/awaits.js, observers.js and promises.js.
    * @param {unknown} promise
    * @param {number} [site]
    * @returns {Asked}
@@ -72,7 +72,7 @@ class Jobs {
   // ---- jobs that are functions
 
   /**
-   * The function that the browser gets in the place of a callback which runs as a job.
+   * The function that the browser gets in the place of a callback which runs as a job. Called by promises.js.
    * @template T
    * @param {T} callback
    * @param {Asked} asked
@@ -96,7 +96,7 @@ class Jobs {
   }
 
   /**
-   * Records the registration of what runs as a handler without an event, and returns its number.
+   * Records the registration of what runs as a handler without an event, and returns its number. Called by page/events/navigations.js and observers.js.
    * @param {Function} callback
    * @param {string} [why]
    */
@@ -109,7 +109,7 @@ class Jobs {
 
   /**
    * A job belongs to the action after which it runs, if all else that it comes after comes before that. Else it is a dispatch in it, and an event of
-   * its own if nothing recorded runs.
+   * its own if nothing recorded runs. Called by observers.js.
    * @template T
    * @param {number} handler
    * @param {Asked} asked
@@ -146,7 +146,7 @@ class Jobs {
   }
 
   /**
-   * Runs a job as a handler of a dispatch, which ends with it if it is an inline one.
+   * Runs a job as a handler of a dispatch, which ends with it if it is an inline one. Called by page/document/reactions.js and observers.js.
    * @template T
    * @param {Dispatch} dispatch
    * @param {number} handler
@@ -224,7 +224,10 @@ class Jobs {
     return dispatch;
   }
 
-  /** Code runs that nothing recorded has called, as the constructor of a custom element for the parser: it is an event of its own, in no order. */
+  /**
+   * Code runs that nothing recorded has called, as the constructor of a custom element for the parser: it is an event of its own, in no order. Called by
+   * page/events/calls.js.
+   */
   beginUnseen() {
     const dispatch = this.page.dispatches.beginPlain(this.place, `code-${this.recording.next('lone job')}`);
     this.#beginHandler(dispatch, this.page.joins.registerIn(null, { type: 'code whose caller is not seen' }), { v: null, moment: null });
@@ -233,7 +236,8 @@ class Jobs {
   // ---- await
 
   /**
-   * What stands after an `await` begins to run: the actions that it comes after are those of a reaction. It ends where the next thing begins.
+   * What stands after an `await` begins to run: the actions that it comes after are those of a reaction. It ends where the next thing begins. Called by
+   * page/helpers/awaits.js and page/scripts/modules.js.
    * @param {Asked} asked
    */
   goesOn(asked) {
@@ -271,7 +275,7 @@ class Jobs {
     this.natives.queueMicrotask(() => { if (this.going === asked) this.endContinuation(); });
   }
 
-  /** The code after an `await` is over, if it runs: something else begins. */
+  /** The code after an `await` is over, if it runs: something else begins. Called by page/document/reactions.js and promises.js. */
   endContinuation() {
     const { recording, going } = this;
     if (recording.contexts.length) return;

@@ -38,12 +38,12 @@ class Observers {
     this.assigned = new WeakSet();
   }
 
-  /** The action that was begun last ends something that comes before the next script for which the parser waits. */
+  /** The action that was begun last ends something that comes before the next script for which the parser waits. Called by page/document/loading.js. */
   noteBeforeScript() {
     this.observed[this.observed.length] = this.recording.lastMoment();
   }
 
-  /** The ends of what mutation observers did since the last call. */
+  /** The ends of what mutation observers did since the last call. Called by page/document/loading.js and page/scripts/scripts.js. */
   takeObserved() {
     const { observed } = this;
     this.observed = [];
@@ -60,6 +60,7 @@ class Observers {
   }
 
   /**
+   * Hooks the constructor of an observer: its callback is wrapped.
    * @param {PageWindow} window
    * @param {string} name
    */
@@ -151,7 +152,7 @@ class Observers {
 
   /**
    * A `slotchange` while no code runs: it comes with the calls of mutation observers. It is after the step of the first node that the slot has got, if that is
-   * an element. It is before the next script for which the parser waits, unless the shadow tree could also come later.
+   * an element. It is before the next script for which the parser waits, unless the shadow tree could also come later. Called by page/events/dispatches.js.
    * @param {import('../types').NewDispatch} dispatch
    */
   orderSlotChange(dispatch) {
@@ -219,6 +220,7 @@ class Observers {
   }
 
   /**
+   * The callback of a FinalizationRegistry: it comes after the call of `register()`.
    * @param {Function} callback
    * @returns {import('../types').Method}
    */

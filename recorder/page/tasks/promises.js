@@ -57,12 +57,15 @@ class Promises {
     each(SEVERAL, (name) => this.#replaceSeveral(window.Promise, name));
   }
 
-  /** Whether jobs are recorded now. */
+  /** Whether jobs are recorded now. Called by page/document/reactions.js. */
   isSeen() {
     return this.recording.isRunning() && !this.recording.isOver;
   }
 
-  /** @param {import('../types').PageWindow} window */
+  /**
+   * Hooks `then`, which `catch` and `finally` call too: a reaction comes after what settled the promise.
+   * @param {import('../types').PageWindow} window
+   */
   #replaceThen(window) {
     const promises = this;
     const { jobs } = this.page;
@@ -94,6 +97,7 @@ class Promises {
   // ---- promises of several promises
 
   /**
+   * Hooks `Promise.all` and the like, which call `then` of each promise.
    * @param {object} owner
    * @param {string} name
    */
@@ -147,7 +151,7 @@ class Promises {
   }
 
   /**
-   * What the reactions of a promise come after, beside the one that settled it.
+   * What the reactions of a promise come after, beside the one that settled it. Called by jobs.js.
    * @param {unknown} promise
    * @param {import('./jobs.js').Asked} [asked] who has asked for the reaction
    * @returns {(Moment|null)[]}
@@ -159,7 +163,7 @@ class Promises {
   }
 
   /**
-   * Why a reaction comes after the moments of its promise.
+   * Why a reaction comes after the moments of its promise. Called by jobs.js.
    * @param {unknown} promise
    */
   whyOf(promise) {
@@ -187,7 +191,7 @@ class Promises {
 
   /**
    * The first reaction of a promise begins. If another task asked for it, the promise was not settled then, so that it has been now: the reactions that
-   * are asked for later come after this point too. Unless a job before in the same event comes after something else.
+   * are asked for later come after this point too. Unless a job before in the same event comes after something else. Called by jobs.js.
    * @param {import('./jobs.js').Asked} asked
    */
   noteFirst({ v: promise, moment, task }) {
@@ -198,7 +202,7 @@ class Promises {
   }
 
   /**
-   * A reaction has run, and its promise is settled, or another promise settles it.
+   * A reaction has run, and its promise is settled, or another promise settles it. Called by jobs.js.
    * @param {import('./jobs.js').Asked} asked
    * @param {unknown} result what the reaction returned
    */
@@ -225,7 +229,8 @@ class Promises {
   }
 
   /**
-   * Whether something is a promise at which a reaction calls no code of the page, as that of an async function.
+   * Whether something is a promise at which a reaction calls no code of the page, as that of an async function. Called by page/events/navigations.js and
+   * callbacks.js.
    * @param {unknown} given
    * @returns {given is object}
    */

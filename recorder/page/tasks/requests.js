@@ -69,7 +69,10 @@ class Requests {
     }
   }
 
-  /** @param {any} owner its members differ by interface */
+  /**
+   * Hooks `open` and `send`: the events of an XHR are replies to the request of `send`.
+   * @param {any} owner its members differ by interface
+   */
   #replaceXhr(owner) {
     const requests = this;
     const { calls, dispatches, endedRequests } = this.page;
@@ -96,7 +99,10 @@ class Requests {
     });
   }
 
-  /** @param {PageWindow} window */
+  /**
+   * Hooks `fetch`, and the calls that read a response's body.
+   * @param {PageWindow} window
+   */
   #replaceFetch(window) {
     const requests = this;
     const { recording } = this;

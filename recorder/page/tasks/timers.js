@@ -57,7 +57,7 @@ class Timers {
   }
 
   /**
-   * The delay as a browser takes it: whole, the low 32 bits, not below 0.
+   * The delay as a browser takes it: whole, the low 32 bits, not below 0. Called by chaos.js.
    * @param {unknown} given
    */
   delay(given) {
@@ -71,7 +71,7 @@ class Timers {
   }
 
   /**
-   * The delay that the Standard compares.
+   * The delay that the Standard compares. Called by chaos.js.
    * @param {number} delay
    */
   clamped(delay) {

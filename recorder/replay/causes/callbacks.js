@@ -1,5 +1,5 @@
 'use strict';
-// Callbacks and events that a replay can hold back.
+// Callbacks (of timers, frames, messages, observers) and events that a replay can hold back.
 
 const { FIRST_FOREIGN_TIMEOUT, FIRST_LONE_MODULE } = require('../../common/numbers.js');
 
@@ -16,7 +16,7 @@ class Callbacks {
   }
 
   /**
-   * The callback of a tick; null if it has none that can wait.
+   * The callback of a tick; null if it has none that can wait. Called by causes.js.
    * @param {string} number
    * @param {Action} action
    */
@@ -29,7 +29,7 @@ class Callbacks {
 
   /**
    * A callback is identified by the place of the code that requested it, in the browser's copy, by the way of the calls that led there, and by which one it is
-   * of the callbacks with both.
+   * of the callbacks with both. Called by causes.js.
    * @param {string} word
    * @param {string|number} number
    * @param {Action|undefined} action
@@ -47,7 +47,7 @@ class Callbacks {
   }
 
   /**
-   * The callbacks of an observer are tasks, except those of a mutation observer.
+   * The callbacks of an observer are tasks, except those of a mutation observer. Called by causes.js.
    * @param {Action} action
    */
   observer({ words: [, dispatch, , handler] }) {
@@ -58,7 +58,7 @@ class Callbacks {
   // ---- events of the browser
 
   /**
-   * An event at an element, or at another object, as a worker.
+   * An event at an element, or at another object, as a worker. Called by causes.js.
    * @param {string} element
    * @param {Action} action
    * @returns {Cause|null}
@@ -122,7 +122,7 @@ class Callbacks {
   }
 
   /**
-   * The answer of a reader, a stream or a database: an event, and no file.
+   * The answer of a reader, a stream or a database: an event, and no file. Called by causes.js.
    * @param {string} request
    * @param {Action} action
    */

@@ -117,7 +117,7 @@ class Causes {
   // ---- what is allowed to be held back for a race
 
   /**
-   * The causes of an action that another action, which has to come before, does not need by the analyzer's order.
+   * The causes of an action that another action, which has to come before, does not need by the analyzer's order. Called by replay/recorded.js.
    * @param {string} traceFile
    * @param {number} held
    * @param {number} other
@@ -139,7 +139,7 @@ class Causes {
   }
 
   /**
-   * Whether the analyzer's order puts an action before another one, or they are one.
+   * Whether the analyzer's order puts an action before another one, or they are one. Called by replay/recorded.js.
    * @param {string} traceFile
    * @param {number} from
    * @param {number} to

@@ -24,7 +24,7 @@ class Files {
   // ---- responses
 
   /**
-   * The file that `import()` requested.
+   * The file that `import()` requested. Called by causes.js.
    * @param {Action} action
    */
   imported(action) {
@@ -34,6 +34,7 @@ class Files {
   }
 
   /**
+   * A response to hold back: of the requests of its address, that with number `nth`.
    * @param {string|undefined} address
    * @param {boolean} isReply whether code requests it
    * @param {number} nth
@@ -47,7 +48,7 @@ class Files {
   }
 
   /**
-   * The response to a request of code; null if the answer is not one response.
+   * The response to a request of code; null if the answer is not one response. Called by causes.js.
    * @param {string} request
    */
   reply(request) {
@@ -61,7 +62,7 @@ class Files {
   }
 
   /**
-   * The file of an element.
+   * The file of an element. Called by causes.js.
    * @param {string} element
    * @param {Action} action
    */
@@ -88,7 +89,7 @@ class Files {
   // ---- scripts
 
   /**
-   * What can be held back so that a script runs later.
+   * What can be held back so that a script runs later. Called by causes.js.
    * @param {Action} action
    */
   script(action) {
@@ -118,7 +119,7 @@ class Files {
   // ---- frames
 
   /**
-   * The action that made the frame of a document.
+   * The action that made the frame of a document. Called by causes.js.
    * @param {string} document
    */
   makerOfFrame(document) {
@@ -136,7 +137,7 @@ class Files {
   }
 
   /**
-   * The file of a frame's page, or null.
+   * The file of a frame's page, or null. Called by causes.js.
    * @param {string} document
    */
   frameFile(document) {
@@ -161,7 +162,7 @@ class Files {
   // ---- the parser
 
   /**
-   * The parser waits before the tag of the step's element, or of the last element before it that has a tag.
+   * The parser waits before the tag of the step's element, or of the last element before it that has a tag. Called by causes.js.
    * @param {Action} action
    */
   parser(action) {
@@ -190,7 +191,7 @@ class Files {
   }
 
   /**
-   * The parser waits at the end of a page.
+   * The parser waits at the end of a page. Called by causes.js.
    * @param {string} document
    * @param {Action} action
    * @returns {Cause}
@@ -201,7 +202,7 @@ class Files {
   }
 
   /**
-   * The load of the window waits.
+   * The load of the window waits. Called by causes.js.
    * @param {string} document
    * @param {Action} action
    * @returns {Cause|null}

@@ -11,7 +11,7 @@ const { LETTERS_OF_ACT } = require('../../common/numbers.js');
 const ASKS = /^(?:early )?(set|every|ask|post|on|send) (\d+)/;
 
 /**
- * The number of the act to which the number of a letter belongs.
+ * The number of the act to which the number of a letter belongs. Called by causes.js.
  * @param {number} act
  */
 const wholeAct = (act) => act - (act % LETTERS_OF_ACT);

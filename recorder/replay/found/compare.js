@@ -195,7 +195,7 @@ class Comparison {
 }
 
 /**
- * The differences between two runs.
+ * The differences between two runs. Called by differences.js and suite-loads.js.
  * @param {Comparing} recorded
  * @param {Comparing} other
  */
@@ -230,7 +230,7 @@ function inWords(difference, sides) {
 }
 
 /**
- * The first differences in words; those with the same words are one.
+ * The first differences in words; those with the same words are one. Called by replay/verdict.js.
  * @param {Difference[]} differences
  * @param {Sides} sides
  */

@@ -26,7 +26,7 @@ const withoutNumbers = (text) => text.replace(/[0-9a-f]{8,}|\d+/gi, '#');
 const isLike = (one, other) => one.kind === other.kind && withoutNumbers(one.subject) === withoutNumbers(other.subject);
 
 /**
- * The differences that are like some of another list, and the others.
+ * The differences that are like some of another list, and the others. Called by replay/confirm.js and replay/independent.js.
  * @param {Difference[]} list
  * @param {Difference[]} some
  */
@@ -43,7 +43,7 @@ class Differences {
   }
 
   /**
-   * The differences between two runs, and between their pictures.
+   * The differences between two runs, and between their pictures. Called by replay/confirm.js and replay/free-run.js.
    * @param {Comparing} one
    * @param {Comparing} other
    */
@@ -55,14 +55,15 @@ class Differences {
     return [...all, { kind: 'picture', subject: 'the picture', isSeen: true, recorded: 'as recorded', other: `${differing} of ${points} points differ`, boxes }];
   }
 
-  /** Closes the tab that compares pictures. */
+  /** Closes the tab that compares pictures. Called by replay/replay.js. */
   close() {
     return this.pictures.close();
   }
 }
 
 /**
- * The differences of a run, sorted: those that are there without the other order are apart, and so are those that nobody can notice.
+ * The differences of a run, sorted: those that are there without the other order are apart, and so are those that nobody can notice. Called by
+ * replay/confirm.js and suite-replays.js.
  * @param {Difference[]} all
  * @param {Difference[]} unsteady
  * @returns {Pick<Found, 'differences'|'beside'|'unsteady'|'byDelay'>}

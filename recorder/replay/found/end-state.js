@@ -212,7 +212,7 @@ async function takePicture(tab) {
 const orNull = (answer) => within(answer.catch(() => null), LONGEST, null);
 
 /**
- * The end of a run that is over.
+ * The end of a run that is over. Called by replay/runs.js.
  * @param {Recorder} recorder
  * @returns {Promise<End>}
  */

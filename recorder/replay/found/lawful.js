@@ -63,7 +63,7 @@ async function unorderedOf(traceFile, actions, pair) {
  */
 
 /**
- * Compares a run in the other order with what the analyzer says that this order needs.
+ * Compares a run in the other order with what the analyzer says that this order needs. Called by replay/replay.js.
  * @param {{traceFile: string, keys: Keys, race: {actions: number[]}, number: number}} recorded the race as it was recorded
  * @param {{file: string, keys: Keys, pair: [number, number]}} run its two actions in the other order, as they came
  * @returns {Promise<Ordered|null>} null if the analyzer prints no second order
@@ -86,7 +86,7 @@ async function checkOrder({ traceFile, keys, race, number }, run) {
 }
 
 /**
- * In which way the page took another way, in words, or ''.
+ * In which way the page took another way, in words, or ''. Called by replay/verdict.js.
  * @param {Ordered|null|undefined} order
  */
 function otherWayInWords(order) {

@@ -17,12 +17,13 @@ const pairOf = (race) => race.actions.join(' ');
  */
 const byRace = (one, other) => (parseInt(one, 10) || 0) - (parseInt(other, 10) || 0);
 /**
+ * Called by replay/in-order.js and replay/independent.js.
  * @param {Race} race
  * @param {Race|null|undefined} other
  */
 const isOnePair = (race, other) => !!other && pairOf(race) === pairOf(other);
 
-/** Made for each recorded run. */
+/** Made for each recorded run, by replay/recorded.js; suite-loads.js uses it for the runs of a suite. */
 class Orders {
   /**
    * @param {Pick<import('../../races/types').Report, 'races'>} report of the recorded run
@@ -55,7 +56,7 @@ class Orders {
   }
 
   /**
-   * What the two accesses of a race are in any run.
+   * What the two accesses of a race are in any run. Called by replay/recorded.js and replay/replay.js.
    * @param {Race} race
    */
   sidesOf(race) {
@@ -103,7 +104,8 @@ class Orders {
   }
 
   /**
-   * Notes the orders of a run, except those of steered races. If races were reversed, those that also came in the other order and did not stray had to.
+   * Notes the orders of a run, except those of steered races. If races were reversed, those that also came in the other order and did not stray had to. Called
+   * by replay/free-run.js and replay/in-order.js.
    * @param {Run} run
    * @param {{steered?: Race[], reversed?: Race[], astray?: Race[]}} facts
    */
@@ -119,7 +121,7 @@ class Orders {
   }
 
   /**
-   * In which runs a race came in which order by itself, and in which with another one; null if it came in none.
+   * In which runs a race came in which order by itself, and in which with another one; null if it came in none. Called by replay-command.js.
    * @param {Race} race
    * @returns {import('../types').Chance|null}
    */
@@ -131,7 +133,7 @@ class Orders {
   }
 
   /**
-   * How the other races of a race's group came in a run in which it was reversed.
+   * How the other races of a race's group came in a run in which it was reversed. Called by replay/replay.js.
    * @param {Run} run
    * @param {Race} race
    */

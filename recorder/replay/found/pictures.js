@@ -43,7 +43,10 @@ async function countPoints(first, second) {
   return { points, differing, boxes };
 }
 
-/** @param {string} data a PNG in base64 */
+/**
+ * The points of a picture. It runs in a page (`countingOf`).
+ * @param {string} data a PNG in base64
+ */
 async function readPicture(data) {
   const image = new Image();
   image.src = `data:image/png;base64,${data}`;
@@ -93,7 +96,7 @@ class Pictures {
   }
 
   /**
-   * How many points differ, of how many, and where; null if one picture is missing.
+   * How many points differ, of how many, and where; null if one picture is missing. Called by differences.js.
    * @param {import('./end-state.js').Picture|null} first
    * @param {import('./end-state.js').Picture|null} second
    * @returns {Promise<Points|null>}
@@ -107,7 +110,7 @@ class Pictures {
     return result.value || null;
   }
 
-  /** Closes the tab in which pictures are compared. */
+  /** Closes the tab in which pictures are compared. Called by differences.js. */
   async close() {
     await this.tab?.then((tab) => tab.close()).catch(() => {}); // the browser may have gone
   }

@@ -1,5 +1,6 @@
 'use strict';
-// A page that never rests, as one with an interval: what keeps it going, and how often that came. Runs of it are compared after equally many turns.
+// A page that never rests, as one with an interval: what keeps it going, and how often that came. Runs of it (../runs.js) are compared
+// after equally many turns.
 
 const { BEGINS, wordOf } = require('../../trace/intake.js');
 
@@ -36,7 +37,7 @@ function turnsOf(entries) {
 }
 
 /**
- * What came most often at the end of a run, as that keeps a restless page going; null if nothing came often. What came more often before, as the lines of a
+ * What came most often at the end of the recorded run (../runs.js), as that keeps a restless page going; null if nothing came often. What came more often before, as the lines of a
  * list that are shown one by one, is over.
  * @param {Entry[]} entries
  * @returns {Turn & {count: number}|null}
@@ -53,7 +54,7 @@ function mostFrequent(entries) {
 }
 
 /**
- * How often a page's own turn came in a run.
+ * How often a page's own turn came in a run, for ../replay.js.
  * @param {Entry[]} entries
  * @param {Turn} turn
  */

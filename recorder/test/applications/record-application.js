@@ -19,7 +19,7 @@ const { listOf, problemsOf } = require('./lists.js');
 
 const TOP = path.join(__dirname, '..', '..', '..');
 const LONGEST_RECORDING = 900000;
-const NOT_DONE = /^er_record: ((?:not done|the recording is not complete): .*)$/gm;
+const NOT_DONE = /^er_page: ((?:not done|the recording is not complete): .*)$/gm;
 /** For a machine with other work. */
 const TIME = ['--time', '120'];
 /** A slow network, in two seeds, which also decide where clicks go. */

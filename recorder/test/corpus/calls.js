@@ -44,7 +44,7 @@ function readSaid(said) {
  */
 function faultOf(text, command) {
   const lines = text.trim().split('\n');
-  const own = command && lines.find((line) => line.startsWith(`${command}: `));
+  const own = command && lines.find((line) => line.startsWith(`${command}: `) && !/^\w+: \d+ actions in /.test(line));
   return (own || lines.find((line) => /^(\w*Error\b|er_\w+: )/.test(line)) || lines[lines.length - 1]).slice(0, 300);
 }
 
@@ -52,7 +52,7 @@ function faultOf(text, command) {
  * Whether a recording is there, if only for as long as its time was.
  * @param {{status: number|null, stderr: string}} ended
  */
-const isRecorded = ({ status, stderr }) => status === 0 || (status === 4 && /^er_record: the recording is not complete/m.test(stderr));
+const isRecorded = ({ status, stderr }) => status === 0 || (status === 4 && /^er_\w+: the recording is not complete/m.test(stderr));
 
 /** The calls of one page. Its files are in a folder of its own. */
 class PageCalls {

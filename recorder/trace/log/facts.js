@@ -93,7 +93,7 @@ class Facts {
   }
 
   /**
-   * Takes a line of facts. Returns whether it fits.
+   * Takes a line of facts. Returns whether it fits. Called by trace/intake.js.
    * @param {string} json
    * @returns {Fact|null} null if it is none
    */

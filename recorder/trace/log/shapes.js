@@ -112,7 +112,7 @@ function fits(shapes, [word, ...rest]) {
 }
 
 /**
- * Whether a text is a record of a version of the format.
+ * Whether a text is a record of a version of the format. Called by trace/spelling/legal.js.
  * @param {string} text
  * @param {number} version
  */
@@ -122,7 +122,7 @@ function isRecord(text, version) {
 }
 
 /**
- * Whether a text is a line of the page's log.
+ * Whether a text is a line of the page's log. Called by trace/intake.js.
  * @param {string} text
  */
 function isLine(text) {

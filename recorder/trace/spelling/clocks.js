@@ -1,5 +1,6 @@
 'use strict';
-// Which timeouts are compared with each other: only those of one window have an order by their delays. The analyzer compares the delays (docs/rules.md, rule 19).
+// Which timeouts (timers) are compared with each other, as one of 100 ms and one of 200 ms: only those of one window have an order by their delays. The
+// analyzer compares the delays (docs/rules.md, rule 19).
 
 const { BEGINS } = require('../intake.js');
 
@@ -47,7 +48,7 @@ function besideFirst(entries) {
 
 /**
  * The timeouts that are written as intervals. In version 1 those of one event are compared, so each event has a window of its own;
- * from version 2 on all are, so it is the window with the most timeouts.
+ * from version 2 on all are, so it is the window with the most timeouts. Called by trace/spelling.js.
  * @param {Entry[]} entries the log
  * @param {number} version
  */

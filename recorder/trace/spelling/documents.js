@@ -25,7 +25,7 @@ class Documents {
   }
 
   /**
-   * Whether a document was declared.
+   * Whether a document was declared. Called by legal.js.
    * @param {string} document
    */
   has(document) {
@@ -33,7 +33,7 @@ class Documents {
   }
 
   /**
-   * Whether an element was declared.
+   * Whether an element was declared. Called by legal.js.
    * @param {string} element
    */
   hasElement(element) {
@@ -41,7 +41,7 @@ class Documents {
   }
 
   /**
-   * A script makes an element.
+   * A script makes an element. Called by legal.js.
    * @param {string[]} tokens document, element and kind, of a frame also its document
    */
   make([document, element, kind, inner]) {
@@ -52,7 +52,7 @@ class Documents {
   }
 
   /**
-   * The parser makes an element.
+   * The parser makes an element. Called by legal.js.
    * @param {string[]} tokens as of `make`
    */
   parse([document, element, kind, inner]) {
@@ -84,7 +84,7 @@ class Documents {
   }
 
   /**
-   * A script runs.
+   * A script runs. Called by legal.js.
    * @param {string} element
    */
   run(element) {
@@ -108,7 +108,7 @@ class Documents {
   }
 
   /**
-   * DOMContentLoaded of a document begins. Returns whether it may.
+   * DOMContentLoaded of a document begins. Returns whether it may. Called by legal.js.
    * @param {string} document
    */
   beginReady(document) {
@@ -119,7 +119,7 @@ class Documents {
   }
 
   /**
-   * The load of a document begins. Returns whether it may.
+   * The load of a document begins. Returns whether it may. Called by legal.js.
    * @param {string} document
    */
   beginLoad(document) {
@@ -130,7 +130,7 @@ class Documents {
   }
 
   /**
-   * The load of an element begins. Returns whether it may.
+   * The load of an element begins. Returns whether it may. Called by legal.js.
    * @param {string} element
    */
   beginElementLoad(element) {

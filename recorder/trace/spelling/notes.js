@@ -98,6 +98,7 @@ class MovedNotes {
 }
 
 /**
+ * Called by trace/spelling.js.
  * @param {Entry[]} entries the log
  * @returns {Entry[]}
  */

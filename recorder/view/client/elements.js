@@ -18,6 +18,7 @@ function make(tag, attributes = {}, ...children) {
 }
 
 /**
+ * Called by picture.js and replays.js.
  * @template {keyof SVGElementTagNameMap} T
  * @param {T} tag
  * @param {{[name: string]: string|number}} attributes
@@ -31,22 +32,26 @@ function makeSvg(tag, attributes = {}, ...children) {
 }
 
 /**
- * A control of the page by its id.
+ * A control of the page by its id. Called by main.js.
  * @param {string} id
  */
 const control = (id) => /** @type {HTMLInputElement|HTMLSelectElement} */ (document.getElementById(id));
 
 /**
+ * Called by main.js, races.js and replays.js.
  * @param {number} number
  * @param {string} one
  */
 const counted = (number, one) => `${number} ${one}${number === 1 ? '' : 's'}`;
 
-/** @param {string} kind */
+/**
+ * Called by races.js.
+ * @param {string} kind
+ */
 const badge = (kind) => make('span', { class: `badge ${kind}` }, kind);
 
 /**
- * A line that opens; its content is made when it first does.
+ * A line that opens; its content is made when it first does. Called by main.js, races.js and replays.js.
  * @param {string} className
  * @param {HTMLElement} summary
  * @param {() => Node} build
@@ -63,7 +68,7 @@ function foldable(className, summary, build) {
 }
 
 /**
- * A long list, a piece at a time.
+ * A long list, a piece at a time. Called by main.js and races.js.
  * @template T
  * @param {T[]} items
  * @param {(item: T) => Node} build

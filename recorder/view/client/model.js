@@ -57,11 +57,14 @@ const lines = model.listed.map(({ part, isKnown, problems: [head, ...others] }, 
   return { part, isKnown, order, problem: model.problems[head], problems: all.map((one) => model.problems[one]), groups: all.flatMap((one) => groupsOf.get(one) || []) };
 });
 
-/** @param {number} action */
+/**
+ * Called by origins.js and picture.js.
+ * @param {number} action
+ */
 const wordsOf = (action) => model.texts[model.actions[action][2]];
 
 /**
- * What an action comes from: the word for it, and the action.
+ * What an action comes from: the word for it, and the action. Called by origins.js and picture.js.
  * @param {number} action
  */
 const originsAt = (action) => model.actions[action][3].map(([word, from]) => ({ word: model.origins[word], from }));

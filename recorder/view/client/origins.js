@@ -9,7 +9,7 @@ const MOST_ORIGINS = 400;
 /** @typedef {import('./model.js').Race} Race */
 
 /**
- * All actions from which one comes, over the notes of the trace: the nearest first.
+ * All actions from which one comes, over the notes of the trace: the nearest first. Called by picture.js.
  * @param {number} action
  */
 function originsOf(action) {
@@ -26,6 +26,7 @@ function originsOf(action) {
 }
 
 /**
+ * Called by picture.js.
  * @param {number} action
  * @param {number} depth
  */
@@ -87,7 +88,8 @@ function stepList(steps) {
 }
 
 /**
- * What is known of two actions, the earlier one first. Only the analyzer decides what is ordered: for a pair about which it was not asked, the box has the command.
+ * What is known of two actions, the earlier one first. Only the analyzer decides what is ordered: for a pair about which it was not asked, the box has the
+ * command. Called by picture.js.
  * @param {number} from
  * @param {number} to
  */
@@ -102,7 +104,10 @@ function pairBox(from, to) {
   return box;
 }
 
-/** @param {Race} race */
+/**
+ * Called by races.js.
+ * @param {Race} race
+ */
 function whyBox(race) {
   const box = make('section', { class: 'why' }, make('h4', {}, 'Where the two come from'));
   const columns = make('div', { class: 'columns' });

@@ -57,7 +57,7 @@ function lookBadges({ look, rank }, line) {
 }
 
 /**
- * A line of one group is that group; one of several opens to them. Groups of its other problems have words of their own.
+ * A line of one group is that group; one of several opens to them. Groups of its other problems have words of their own. Called by main.js.
  * @param {Line} line those of its groups that match the filter
  */
 function lineBox(line) {

@@ -1,4 +1,5 @@
-// Replays of races, run again in the other order: their verdicts, the differences, and the ends of both runs. With screenshots of both runs.
+// Replays of races, run again in the other order: how the results are shown (displayed): their verdicts, the differences, and the ends of both runs. With
+// screenshots of both runs.
 
 import { counted, foldable, make, makeSvg } from './elements.js';
 import { model, raceOf } from './model.js';
@@ -40,10 +41,16 @@ function badgesOf(replay) {
   return [make('span', { class: `badge verdict ${verdict}`, title: replay.words }, VERDICTS[verdict]), ...replay.effect ? [make('span', { class: 'badge effect' }, replay.effect)] : []];
 }
 
-/** @param {Race} race */
+/**
+ * Called by races.js.
+ * @param {Race} race
+ */
 const isReplayed = ({ number }) => replayOf.has(number);
 
-/** @param {Race} race */
+/**
+ * Called by races.js.
+ * @param {Race} race
+ */
 const verdictBadge = (race) => badgesOf(replayOf.get(race.number));
 
 /**
@@ -64,13 +71,22 @@ function rankOfReplay(replay) {
   return verdict === 'differs' ? EFFECTS.indexOf(replay?.effect || '') : RANKS[verdict];
 }
 
-/** @param {Line} line */
+/**
+ * Called by main.js.
+ * @param {Line} line
+ */
 const rankOfVerdict = (line) => rankOfReplay(replayOfLine(line));
 
-/** @param {Line} line */
+/**
+ * Called by races.js.
+ * @param {Line} line
+ */
 const verdictBadgeOfLine = (line) => badgesOf(replayOfLine(line));
 
-/** @param {Line} line */
+/**
+ * Called by main.js.
+ * @param {Line} line
+ */
 const isHarmless = (line) => verdictOf(replayOfLine(line)) === 'same';
 
 // ---- the box of a race
@@ -117,7 +133,7 @@ function foldedTable(differences, words) {
 const asSentence = (text) => `${text[0].toUpperCase()}${text.slice(1)}.`;
 
 /**
- * What a replay found of a race, as elements; none if it was not replayed.
+ * What a replay found of a race, as elements; none if it was not replayed. Called by races.js.
  * @param {Race} race
  */
 function replayBox(race) {

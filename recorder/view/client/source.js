@@ -6,6 +6,7 @@ import { model } from './model.js';
 const LINES_AROUND = 2; // excerpts.js takes as many
 
 /**
+ * Called by races.js.
  * @param {string|null} key
  * @param {string} title
  */
