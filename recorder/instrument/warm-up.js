@@ -30,7 +30,10 @@ function warmUp() {
   readTags(PAGE.repeat(TIMES_PAGE));
 }
 
-/** Marks a few lines. The marks of a page's files may be kept ones; those of the scripts in its text are made when it comes. */
+/**
+ * Marks a few lines. The marks of a page's files may be kept ones; those of the scripts in its text are made when it comes.
+ * Called by recording/recorder.js.
+ */
 function warmUpForInline() {
   instrument(MINIFIED, OPTIONS);
 }

@@ -60,7 +60,7 @@ function fixOf(look, { kind, isOfUser, modes = 'ww', tag = '', isByLibrary = fal
 }
 
 /**
- * The change for a problem of which a replay found no visible difference.
+ * The change for a problem of which a replay found no visible difference. Called by entries.js.
  * @param {string} fix that of its pattern
  */
 const fixOfSame = (fix) => (fix.startsWith('usually none') ? fix : `${IF_UNSEEN}: ${fix.replace(IF, '')}`);

@@ -278,7 +278,7 @@ class Listing {
   }
 
   /**
-   * A usual change for a problem. Called by json.js, loads-page.js and view/choice.js.
+   * A usual change for a problem. Called by json.js and loads-page.js.
    * @param {Listed} line
    */
   fixOf(line) {

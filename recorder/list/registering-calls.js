@@ -12,7 +12,7 @@ const MOST_NAMED = 3;
 const BY_CALL = 'registered by the same call';
 
 /**
- * The line of a library that makes an access for the page's own code at a place; null if no library does, or this is unknown.
+ * The line of a library that makes an access for the page's own code at a place; null if no library does, or this is unknown. Called by sides.js.
  * @param {import('../races/words.js').Words} words
  * @param {number} line of the trace
  * @param {string} location
@@ -28,7 +28,8 @@ function wayOf(words, line, location, at) {
 }
 
 /**
- * The call of the page's own code that registers the handler of a race, in one action: all that a library registers for it, or the handlers of one target.
+ * The call of the page's own code that registers the handler of a race, in one action: all that a library registers for it, or the handlers of one target. Called
+ * by entries.js and sides.js.
  * @param {import('../races/words.js').Words} words
  * @param {Race} race
  * @returns {string} '' if it is unknown
@@ -47,7 +48,7 @@ function callOf(words, { location, modes, lines, actions }) {
 const typeOf = ({ verb }) => verb.replace(/ at$/, '');
 
 /**
- * What else the call of a late handler registers: events at the same element, then those at others.
+ * What else the call of a late handler registers: events at the same element, then those at others. Called by entries.js.
  * @param {Side} own the event that the entry shows
  * @param {Side[]} others
  * @returns {string} '' if there is nothing else

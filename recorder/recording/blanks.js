@@ -13,6 +13,7 @@ const TOKENS = new RegExp(`(${STRING}|${TEMPLATE}|${PATTERN})|${BLANKS}`, 'g');
 const JOIN = /^(?:[\w$#][\w$#]|\+\+|--|\/\/|\/\*)$/;
 
 /**
+ * A script without blanks and comments between its tokens. Called by page-script.js.
  * @param {string} code
  * @returns {string} code of the same tokens, in one line
  */

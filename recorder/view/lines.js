@@ -8,7 +8,7 @@
  */
 
 /**
- * What the list says of a problem.
+ * What the list says of a problem. Called by choice.js.
  * @param {Listing} listing
  * @param {import('../list/listing.js').Listed} problem
  * @param {import('../list/listing.js').Listed[]} others of its line, if it is the first one

@@ -55,7 +55,10 @@ function detailOf(look, word, event) {
   return look === 'undefined' && word === 'elem' ? 'element' : '';
 }
 
-/** @param {string} event its type */
+/**
+ * Whether an event comes again by itself. Called by looks.js.
+ * @param {string} event its type
+ */
 const isAgain = (event) => COMES_AGAIN.test(event);
 
 const RANKS = /** @type {LookKey[]} */ (Object.keys(LOOKS));

@@ -53,7 +53,8 @@ function isConsequence(cause, type, task, now) {
 }
 
 /**
- * Whether the browser can have queued an event of a type in a dispatch of another type that ended so many milliseconds ago, before something else began.
+ * Whether the browser can have queued an event of a type in a dispatch of another type that ended so many milliseconds ago, before something else began. Called
+ * by queued.js.
  * @param {string} causeType
  * @param {string} type
  * @param {number} pause

@@ -17,7 +17,8 @@ const ALL_ITEMS = 2 * ALL_OTHERS - 1;
  */
 const bitOf = (item) => 1 << (item < SINGLE_ITEMS ? item : SINGLE_ITEMS);
 /**
- * The mark of a site for the place of its write, and the place for a mark: below zero if the other one is not.
+ * The mark of a site for the place of its write, and the place for a mark: below zero if the other one is not. Called by scopes.js
+ * and page/helpers/scopes.js.
  * @param {number} place
  */
 const markOfStaged = (place) => -1 - place;
