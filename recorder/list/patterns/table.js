@@ -56,7 +56,7 @@ function detailOf(look, word, event) {
 }
 
 /**
- * Whether an event comes again by itself. Called by looks.js.
+ * Whether an event comes again by itself. Called by list/looks.js.
  * @param {string} event its type
  */
 const isAgain = (event) => COMES_AGAIN.test(event);
