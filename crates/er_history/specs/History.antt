@@ -6,11 +6,12 @@ use Rattle.er_trace.specs.Signature.{nesting}
 use Rattle.er_trace.specs.declared.nesting.Nesting.{Nesting}
 use Rattle.er_trace.specs.declared.nesting.Nesting.TheVariants.{Note, Alone, OutsideInline, Called, Under, Behind}
 use Rattle.er_trace.specs.declared.record.Record.{Record}
-use Rattle.er_trace.specs.declared.record.Record.TheVariants.{Parse, ParseFrame, Exec, Timer, Tick, Dcl, Load, Eload, Fire, Wfire, Reply, Inline, Run, Close, Back, New, NewFrame, On, Set, Every, Send, Post, Ask, Queue, Message, Anim, Job}
+use Rattle.er_trace.specs.declared.record.Record.TheVariants.{Parse, ParseFrame, Exec, Timer, Tick, Dcl, Load, Eload, Fire, Wfire, Reply, Inline, Run, Close, Back, New, NewFrame, Set, Message, Anim, Job}
 use Rattle.er_trace.specs.declared.record.Kind.{Kind}
 use Rattle.er_trace.specs.declared.record.Kind.TheVariants as kinds
 use Rattle.er_trace.specs.declared.record.NewKind.{NewKind}
 use Rattle.er_trace.specs.declared.record.NewKind.TheVariants as new_kinds
+use Rattle.er_history.specs.Claimed.{AsDocument, AsHandler, AsInterval, AsRequest, AsMessage, AsAnim, AsJob, claims_as}
 
 -- The form of an element: one with a kind, or a frame with the document inside.
 pub data Form : Type 0 where
@@ -174,33 +175,25 @@ makes_timeout number entry = by entry.action entry.read
     by _ _ = None
 
 abbrev pub declares_document : ℕ → Record → Bool
-declares_document number (ParseFrame d e f) = f == number
-declares_document number (NewFrame d e f) = f == number
-declares_document number _ = false
+declares_document = claims_as AsDocument
 
 abbrev pub declares_handler : ℕ → Record → Bool
-declares_handler number (On h) = h == number
-declares_handler number _ = false
+declares_handler = claims_as AsHandler
 
 abbrev pub declares_interval : ℕ → Record → Bool
-declares_interval number (Every i n) = i == number
-declares_interval number _ = false
+declares_interval = claims_as AsInterval
 
 abbrev pub declares_request : ℕ → Record → Bool
-declares_request number (Send r) = r == number
-declares_request number _ = false
+declares_request = claims_as AsRequest
 
 abbrev pub posts_message : ℕ → Record → Bool
-posts_message number (Post m) = m == number
-posts_message number _ = false
+posts_message = claims_as AsMessage
 
 abbrev pub asks_for_anim : ℕ → Record → Bool
-asks_for_anim number (Ask a) = a == number
-asks_for_anim number _ = false
+asks_for_anim = claims_as AsAnim
 
 abbrev pub queues_job : ℕ → Record → Bool
-queues_job number (Queue j) = j == number
-queues_job number _ = false
+queues_job = claims_as AsJob
 
 -- the task that an entry declares whose record passes the test
 abbrev pub makes_task : (Record → Bool) → Entry → Option Task

@@ -1,3 +1,4 @@
+pub mod Claimed
 pub mod Edges
 pub mod Facts
 pub mod Found

@@ -5,76 +5,49 @@ use Rattle.std.specs.List.{list_any}
 use Rattle.er_text.specs.declared.causes.Cause.{Cause}
 use Rattle.er_text.specs.declared.causes.Cause.TheVariants.{Unknown, Again, NotScript, Misplaced, TooManyActions, TooDeep}
 use Rattle.er_trace.specs.declared.record.Record.{Record}
-use Rattle.er_trace.specs.declared.record.Record.TheVariants.{Parse, ParseFrame, Exec, Timer, Dcl, Load, Eload, Fire, Wfire, Reply, Inline, New, NewFrame, Set}
 use Rattle.er_trace.specs.declared.nesting.Nesting.{Nesting}
 use Rattle.er_trace.specs.declared.nesting.Nesting.TheVariants.{Note, Alone, OutsideInline, Called, Under, Behind}
 use Rattle.er_trace.specs.Signature.{Uses, UsesNone, UsesDocument, UsesElement, UsesTimeout, UsesInterval, UsesRequest, UsesDispatch, UsesDispatchAndHandler, UsesMessage, UsesAnim, UsesJob, Claims, ClaimsNone, MakesElement, MakesFrame, MakesHandler, MakesTimeout, MakesInterval, MakesRequest, MakesMessage, MakesAnim, MakesJob, StartsScript, StartsTimeout, StartsMessage, StartsAnim, StartsJob, StartsDispatch, StartsDcl, StartsLoad, StartsEload, nesting, uses, claims}
 use Rattle.er_trace.specs.declared.record.Kind.{Kind}
 use Rattle.er_trace.specs.declared.record.Kind.TheVariants as kinds
 use Rattle.er_paths.specs.Limits.{most_actions}
+use Rattle.er_history.specs.Claimed.{AsElement, AsTimeout, AsScriptRun, AsTimeoutRun, AsMessageRun, AsAnimRun, AsJobRun, AsDispatch, AsDcl, AsLoad, AsEload, claims_as}
 use Rattle.er_history.specs.History.{begins, declares_document, declares_handler, declares_interval, declares_request, makes_element, first_to, Form, Kinded, Framing, Element, History, told, Open, is_inline, running, What, ParseStep, ScriptRun, TimeoutRun, TickRun, BeginOf, HandlerOf, CloseOf, Unnamed, MessageRun, AnimRun, JobRun, posts_message, asks_for_anim, queues_job, Action}
 
+-- What a record declares or starts. Seven of these tests are in History, which needs them.
+
 abbrev pub declares_element : ℕ → Record → Bool
-declares_element number (Parse d e k) = e == number
-declares_element number (ParseFrame d e f) = e == number
-declares_element number (New d e k) = e == number
-declares_element number (NewFrame d e f) = e == number
-declares_element number _ = false
+declares_element = claims_as AsElement
 
 abbrev pub sets_timeout : ℕ → Record → Bool
-sets_timeout number (Set t n) = t == number
-sets_timeout number _ = false
+sets_timeout = claims_as AsTimeout
 
 abbrev pub begins_dispatch : ℕ → Record → Bool
-begins_dispatch number (Dcl p d) = p == number
-begins_dispatch number (Load p d) = p == number
-begins_dispatch number (Eload p e) = p == number
-begins_dispatch number (Fire p e n) = p == number
-begins_dispatch number (Wfire p d n) = p == number
-begins_dispatch number (Reply p r) = p == number
-begins_dispatch number (Inline p e n) = p == number
-begins_dispatch number _ = false
+begins_dispatch = claims_as AsDispatch
 
 abbrev pub runs_script : ℕ → Record → Bool
-runs_script number (Exec e) = e == number
-runs_script number _ = false
+runs_script = claims_as AsScriptRun
 
 abbrev pub fires_timeout : ℕ → Record → Bool
-fires_timeout number (Timer t) = t == number
-fires_timeout number _ = false
+fires_timeout = claims_as AsTimeoutRun
 
 abbrev pub begins_message : ℕ → Record → Bool
-begins_message number x = by (claims x)
-  where
-    by : Claims → Bool
-    by (StartsMessage m) = m == number
-    by _ = false
+begins_message = claims_as AsMessageRun
 
 abbrev pub begins_anim : ℕ → Record → Bool
-begins_anim number x = by (claims x)
-  where
-    by : Claims → Bool
-    by (StartsAnim a) = a == number
-    by _ = false
+begins_anim = claims_as AsAnimRun
 
 abbrev pub begins_job : ℕ → Record → Bool
-begins_job number x = by (claims x)
-  where
-    by : Claims → Bool
-    by (StartsJob j) = j == number
-    by _ = false
+begins_job = claims_as AsJobRun
 
 abbrev pub is_dcl : ℕ → Record → Bool
-is_dcl number (Dcl p d) = d == number
-is_dcl number _ = false
+is_dcl = claims_as AsDcl
 
 abbrev pub is_load : ℕ → Record → Bool
-is_load number (Load p d) = d == number
-is_load number _ = false
+is_load = claims_as AsLoad
 
 abbrev pub is_eload : ℕ → Record → Bool
-is_eload number (Eload p e) = e == number
-is_eload number _ = false
+is_eload = claims_as AsEload
 
 -- document 0 is known from the start
 abbrev pub knows_document : List Record → ℕ → Bool
