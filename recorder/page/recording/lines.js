@@ -96,7 +96,7 @@ class Lines extends Shared {
   }
 
   /**
-   * A handler of a dispatch has begun, or its close. Called by page/events/dispatches.js, page/tasks/jobs.js, requests.js and joins.js.
+   * A handler of a dispatch has begun, or its close. Called by joins.js, page/events/dispatches.js, page/tasks/jobs.js and page/tasks/requests.js.
    * @param {import('../types').NewDispatch} dispatch
    */
   noteInside(dispatch) {
