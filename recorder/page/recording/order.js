@@ -8,7 +8,8 @@ import { each, findItem, hasItem } from '../core/lists.js';
 const LONGEST_CHAIN = 20;
 
 /**
- * Whether rules are known to put an event before the running one: a short search along `after`. Called by page/events/queued.js and recording.js.
+ * Whether rules are known to put an event before the running one: a short search along `after`. Called by recording.js,
+ * page/tasks/timers.js and page/tasks/ended-requests.js.
  * @param {TraceEvent} running
  * @param {TraceEvent} event
  */

@@ -1,5 +1,5 @@
-// Requests that code ends: by `abort()` of an XMLHttpRequest or of the controller of a `fetch`, and by a further `open()`. Such a request has no reply after
-// that, so the replies of what is sent then come after its last one. A search box that aborts its former request.
+// Requests that code ends, as a search box ends its former request before the next one: they have no reply after that, so the replies to what is sent then
+// come after their last one. Replies in order after `abort()` or a further `open()`.
 
 import { each, findItem, keep, takeFirst } from '../core/lists.js';
 import { replaceMethod } from '../core/replacing.js';
@@ -19,7 +19,7 @@ class EndedRequests {
     this.page = page;
     this.recording = page.recording;
     /**
-     * The requests of `fetch` with a signal that is not aborted.
+     * The requests whose controller can still end them.
      * @type {{request: Request, signal: AbortSignal}[]}
      */
     this.signalled = [];
