@@ -41,7 +41,7 @@ class EndedRequests {
     });
   }
 
-  /** The requests whose signal is not aborted: other calls and timeouts abort signals too. */
+  /** The requests that nothing has ended: other calls and timeouts can do that too. */
   #open() {
     return keep(this.signalled, ({ signal }) => !this.#isAborted(signal));
   }
