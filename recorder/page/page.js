@@ -46,6 +46,7 @@ import { Callbacks } from './tasks/callbacks.js';
 import { Chaos } from './tasks/chaos.js';
 import { Clock } from './tasks/clock.js';
 import { Connections } from './tasks/connections.js';
+import { EndedRequests } from './tasks/ended-requests.js';
 import { Jobs } from './tasks/jobs.js';
 import { Observers } from './tasks/observers.js';
 import { Promises } from './tasks/promises.js';
@@ -109,6 +110,7 @@ class Page {
     this.promises = new Promises(this);
     this.observers = new Observers(this);
     this.requests = new Requests(this);
+    this.endedRequests = new EndedRequests(this);
     this.connections = new Connections(this);
     this.messages = new Messages(this);
     this.reactions = new Reactions(this);
@@ -148,7 +150,7 @@ class Page {
     if (this.recording.objects) this.recording.objects.addWindow(this);
     this.#beginDocument();
     const parts = [this.chaos, this.handlers, this.onHandlers, this.capturing, this.calls, this.attributes, this.made, this.lookups, this.fields, this.causes, this.media, this.navigations, this.timers, this.callbacks,
-      this.jobs, this.promises, this.observers, this.requests, this.connections, this.messages, this.reactions, this.clock, this.unseen];
+      this.jobs, this.promises, this.observers, this.requests, this.endedRequests, this.connections, this.messages, this.reactions, this.clock, this.unseen];
     each(parts, (part) => part.start());
     this.#replaceToString();
     this.tree.start(maker);

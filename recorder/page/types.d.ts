@@ -130,6 +130,10 @@ export interface TraceEvent {
   insideOf?: TraceEvent;
   /** Whether a job in it came after events that no rule puts before it. */
   hasLateJobs?: boolean;
+  /** Whether it stands for a point in `insideOf` (`Recording.point`). */
+  isPoint?: boolean;
+  /** Of a timeout's callback: those of other timeouts that come before it in each browser. */
+  earlier?(): TraceEvent[];
 }
 
 /** An action, named when it might be over (`Recording.moment`). */
@@ -157,8 +161,11 @@ export interface NewDispatch {
   isInline: boolean;
   /** The event that called it, if it is inline. */
   suspended?: TraceEvent;
-  /** The event of its first record. */
+  /** The event of its first record, and those of its handlers, as many as are searched. */
   beginning?: TraceEvent;
+  ran?: TraceEvent[];
+  /** Its record without its number, if the next one with this place comes after it (rule 17). */
+  place?: string;
   event?: Event;
   target?: Target;
   /** The group of the handler that ran last, and what distinguishes it from the next one. */

@@ -46,7 +46,7 @@ const FIRST_HITS = {
   'delete operator': 'instrument/walk/expressions.js', 'MutationObserver callback': 'page/tasks/observers.js',
   'IndexedDB transaction': 'page/tasks/connections.js', 'redirect page step': 'browser/responses/page-steps.js', 'too many accesses': 'trace/limits.js',
   'WebSocket message frame protocol': 'browser/web-socket.js',
-  'clearTimeout held callback': 'page/recording/clearing.js', 'abort fetch signal': 'page/tasks/requests.js', 'service worker bypass': 'browser/responses.js',
+  'clearTimeout held callback': 'page/recording/clearing.js', 'abort fetch signal': 'page/tasks/ended-requests.js', 'service worker bypass': 'browser/responses.js',
   'signal Ctrl-C nested': 'common/stoppable.js', 'recorders write folder': 'driven/trace-folder.js', 'profile lock': 'driven/profile-lock.js',
   'shadow root': 'page/document/shadows.js', 'random seed clock': 'page/core/chance.js', 'proxy object kind': 'page/objects/kinds.js',
   'space newline': 'page/log/spelling.js', 'generator yield action': 'page/recording/recording.js', 'source map 404': 'trace/source-map.js',

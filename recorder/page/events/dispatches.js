@@ -130,6 +130,7 @@ class Dispatches {
     dispatch.number = recording.next('dispatch');
     recording.begin(`inline ${dispatch.number} ${standIn} ${spellName(dispatch.event.type)}`, 'begin', undefined, [dispatch.suspended]);
     dispatch.beginning = recording.running;
+    recording.running.insideOf = dispatch.suspended;
   }
 
   /**
@@ -163,7 +164,7 @@ class Dispatches {
     page.loading.orderLeaving(dispatch);
     const request = this.requests.get(target);
     if (request) {
-      recording.begin(`reply ${dispatch.number} ${request.number}`, 'begin', undefined, [request.sender]);
+      recording.begin(`reply ${dispatch.number} ${request.number}`, 'begin', undefined, [request.sender, request.end?.event]);
       page.connections.order(dispatch, request);
     } else if (!page.loading.begin(dispatch) && !page.messages.begin(dispatch) && !page.queued.begin(dispatch)) this.#beginAt(dispatch);
     dispatch.beginning = recording.running;
@@ -179,11 +180,11 @@ class Dispatches {
     const { recording, page } = this;
     const type = spellName(event.type);
     if (target === page.window) {
-      recording.begin(`wfire ${dispatch.number} ${page.number} ${type}`, 'begin');
+      recording.beginAt(dispatch, 'wfire', page.number, type);
       return;
     }
     const element = page.controls.standIn(dispatch) || page.elements.declaredNumber(target);
-    recording.begin(`fire ${dispatch.number} ${element} ${type}`, 'begin', undefined, dispatch.comesAfter);
+    recording.beginAt(dispatch, 'fire', element, type, dispatch.comesAfter);
   }
 
   /**

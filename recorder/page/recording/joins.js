@@ -57,6 +57,7 @@ class Joins {
     each(this.needed(moments), (moment) => {
       const handler = this.registerIn(moment, { type: why, isEmpty: true });
       recording.begin(`run ${dispatch.number} 0 ${handler}`, 'handler', undefined, [before, moment.event]);
+      recording.noteInside(dispatch);
       events[events.length] = moment.event;
     });
     return events;
@@ -104,6 +105,7 @@ class Joins {
     recording.log.name('element', standIn, facts);
     const dispatch = recording.push({ number, isInline: true, suspended });
     recording.begin(`inline ${number} ${standIn} ${type}`, 'begin', undefined, [suspended]);
+    recording.running.insideOf = suspended;
     return dispatch;
   }
 }

@@ -7,6 +7,9 @@ import { placeOnStack } from '../log/stack.js';
 import { Values } from '../log/values.js';
 import { Shared } from './shared.js';
 
+/** So many handlers of a dispatch are known to its close. */
+const MOST_RAN = 8;
+
 /** A part of `Recording`, which extends it (through open-dispatches.js). */
 class Lines extends Shared {
   /** @param {import('../types').Send} send */
@@ -93,11 +96,14 @@ class Lines extends Shared {
   }
 
   /**
-   * An event of a dispatch has begun.
+   * A handler of a dispatch has begun, or its close.
    * @param {import('../types').NewDispatch} dispatch
    */
   noteInside(dispatch) {
     if (dispatch.isInline) this.running.insideOf = dispatch.suspended;
+    const ran = dispatch.ran || [];
+    dispatch.ran = ran;
+    if (ran.length < MOST_RAN) ran[ran.length] = this.running;
   }
 
   // ---- notes and accesses
@@ -121,7 +127,7 @@ class Lines extends Shared {
     this.values.write();
     const element = this.next('element');
     const point = this.next('dispatch');
-    const moment = { action: this.actions, event: { kind: 'begin', after: this.running.after, insideOf: this.running }, point, element };
+    const moment = { action: this.actions, event: { kind: 'begin', after: this.running.after, insideOf: this.running, isPoint: true }, point, element };
     this.log.line(`point ${page} ${element} ${point}`);
     this.accessed.clear();
     this.actions++;

@@ -1,12 +1,15 @@
 // The dispatches that are not over, as a stack: which of them end before something else can be written.
 
-import { Set } from '../core/taken.js';
+import { joined, takeFirst } from '../core/lists.js';
+import { Map, Set } from '../core/taken.js';
 import { Lines } from './lines.js';
 
 /** At most this many inline dispatches are open (docs/format.md). */
 const MOST_OPEN = 256;
 /** Events in which a script can dispatch another one. */
 const MAY_DISPATCH = new Set(['exec', 'timer', 'tick', 'handler', 'close']);
+/** So many dispatches of one type at one target are known to come one after the other. */
+const MOST_LINKED = 6;
 
 /** A part of `Recording`, which extends it. */
 class OpenDispatches extends Lines {
@@ -29,6 +32,11 @@ class OpenDispatches extends Lines {
      * @type {import('../types').Dispatch[]}
      */
     this.dispatches = [];
+    /**
+     * By target and type: the close of the last dispatch, and the starts of the last ones.
+     * @type {Map<string, {close: import('../types').TraceEvent|null, starts: import('../types').TraceEvent[]}>}
+     */
+    this.places = new Map();
   }
 
   /** Whether the format allows an inline dispatch in the running event. */
@@ -58,13 +66,34 @@ class OpenDispatches extends Lines {
     return dispatch;
   }
 
+  /**
+   * Begins a dispatch of whose cause nothing is known: it comes after the one before of its type at its target (rule 17).
+   * @param {import('../types').NewDispatch} dispatch
+   * @param {'fire'|'wfire'} word
+   * @param {number} target an element, or the document of a window
+   * @param {string} type
+   * @param {import('../types').TraceEvent[]} [after]
+   */
+  beginAt(dispatch, word, target, type, after = []) {
+    const place = `${word} ${target} ${type}`;
+    const known = this.places.get(place) || { close: null, starts: [] };
+    this.places.set(place, known);
+    dispatch.place = place;
+    this.begin(`${word} ${dispatch.number} ${target} ${type}`, 'begin', undefined, joined(after, known.close ? [known.close] : []));
+    known.starts[known.starts.length] = this.running;
+    const oldest = known.starts.length > MOST_LINKED ? takeFirst(known.starts) : undefined;
+    if (oldest) oldest.after = []; // else all events would be kept
+  }
+
   /** Writes the end of a dispatch. It stays on the stack: the caller removes it (`finishTop`). */
   close(/** @type {import('../types').Dispatch} */ dispatch) {
     if (dispatch.isClosed) return;
     dispatch.isClosed = true;
     if (dispatch.event) this.endedEvents.add(dispatch.event);
-    this.begin(`close ${dispatch.number}`, 'close');
+    this.begin(`close ${dispatch.number}`, 'close', undefined, joined(dispatch.beginning ? [dispatch.beginning] : [], dispatch.ran));
     this.noteInside(dispatch);
+    const known = dispatch.place && this.places.get(dispatch.place);
+    if (known) known.close = this.running;
     this.running.awaits = dispatch.awaits;
     if (dispatch.whenClosed) dispatch.whenClosed();
   }

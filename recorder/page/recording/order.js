@@ -1,6 +1,6 @@
-// Which events the rules are known to put before the running one.
+// Which events come before the running one: by the rules, or in each browser.
 
-import { each, hasItem } from '../core/lists.js';
+import { each, findItem, hasItem } from '../core/lists.js';
 
 /** @typedef {import('../types').TraceEvent} TraceEvent */
 
@@ -12,37 +12,69 @@ const LONGEST_CHAIN = 20;
  * @param {TraceEvent} running
  * @param {TraceEvent} event
  */
-function isBefore(running, event) {
-  if (isInside(running, event)) return true;
-  let events = [running];
-  for (let depth = 0; depth < LONGEST_CHAIN && events.length; depth++) {
-    if (hasItem(events, event)) return true;
-    events = eventsBefore(events);
-  }
-  return false;
-}
+const isBefore = (running, event) => isFound(running, event, false);
 
 /**
- * Whether an event is in an inline dispatch of the running one: that is over, and the running piece comes after it.
+ * Whether an event comes before the running one in each browser: by `isBefore`, or by the rule about timeouts, which not all versions of the format have.
  * @param {TraceEvent} running
  * @param {TraceEvent} event
  */
-function isInside(running, event) {
-  for (let one = /** @type {TraceEvent|undefined} */ (event); one; one = one.insideOf) {
-    if (one === running) return true;
+const comesBefore = (running, event) => isFound(running, event, true);
+
+/**
+ * @param {TraceEvent} running
+ * @param {TraceEvent} event
+ * @param {boolean} isByDelays whether the callbacks of timeouts are searched too that came earlier
+ */
+function isFound(running, event, isByDelays) {
+  if (isInside(running, event)) return true;
+  const sought = aroundEvent(event, running);
+  let events = [running];
+  for (let depth = 0; depth < LONGEST_CHAIN && events.length; depth++) {
+    if (findItem(events, (one) => hasItem(sought, one))) return true;
+    events = eventsBefore(events, isByDelays);
   }
   return false;
 }
 
 /**
- * The events that rules put directly before some others, as many as are searched.
- * @param {TraceEvent[]} events
+ * Whether an event is another one, or in an inline dispatch of it. If that runs, such a dispatch is over, and the running piece comes after it.
+ * @param {TraceEvent} around
+ * @param {TraceEvent} event
  */
-function eventsBefore(events) {
+function isInside(around, event) {
+  for (let one = /** @type {TraceEvent|undefined} */ (event); one; one = one.insideOf) {
+    if (one === around) return true;
+  }
+  return false;
+}
+
+/**
+ * An event, and those around it: what comes after one of these comes after the event too, if that is a point, or if its dispatch is over as the running
+ * event begins, so not around that.
+ * @param {TraceEvent} event
+ * @param {TraceEvent} running
+ */
+function aroundEvent(event, running) {
+  const around = [event];
+  for (let one = event; one.insideOf && (one.isPoint || !isInside(one.insideOf, running)); one = one.insideOf) around[around.length] = one.insideOf;
+  return around;
+}
+
+/**
+ * The events directly before some others, each once, as many as are searched.
+ * @param {TraceEvent[]} events
+ * @param {boolean} isByDelays
+ */
+function eventsBefore(events, isByDelays) {
   /** @type {TraceEvent[]} */
   const before = [];
-  each(events, (one) => each(one.after, (event) => { if (before.length < LONGEST_CHAIN) before[before.length] = event; }));
+  const add = (/** @type {TraceEvent} */ event) => { if (before.length < LONGEST_CHAIN && !hasItem(before, event)) before[before.length] = event; };
+  each(events, (one) => {
+    each(one.after, add);
+    if (isByDelays && one.earlier) each(one.earlier(), add);
+  });
   return before;
 }
 
-export { isBefore };
+export { comesBefore, isBefore };

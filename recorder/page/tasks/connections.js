@@ -78,7 +78,10 @@ class Connections {
    */
   order(dispatch, request) {
     const queue = this.#queueOf(dispatch.target, request);
-    if (!queue && !request.opening) return;
+    if (!queue && !request.opening) {
+      this.page.endedRequests.order(dispatch, request);
+      return;
+    }
     request.queue = queue;
     const { target } = dispatch;
     if (dispatch.event.type === 'upgradeneeded') this.page.dispatches.requests.set(/** @type {any} */ (target).transaction, request);

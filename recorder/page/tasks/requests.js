@@ -1,7 +1,7 @@
 // XMLHttpRequest (Ajax) and fetch: requests, their replies, and the promise of a fetch, also of one that a signal aborts. When the promise of a `fetch` is
 // resolved or rejected, and who reads the body (`json()`, `text()`); `readystatechange`, `load` of an XHR.
 
-import { each } from '../core/lists.js';
+import { each, joined } from '../core/lists.js';
 import { replaceMethod } from '../core/replacing.js';
 import { sliceOf, withoutFragment } from '../core/strings.js';
 import { String, WeakMap, apply } from '../core/taken.js';
@@ -11,11 +11,12 @@ const BODY_CALLS = ['json', 'text', 'arrayBuffer', 'blob', 'formData', 'bytes'];
 /** @typedef {import('../types').PageWindow} PageWindow */
 /** @typedef {import('../types').Facts} Facts */
 /** @typedef {import('../types').TraceEvent} TraceEvent */
+/** @typedef {import('../types').Moment} Moment */
 /**
- * A request that was sent: by which event, the last reply, and what it is of a database, with the end of the last reply in its transaction. If it opens or
- * deletes a database: the end of its last reply, and that of the request before it with the same name.
- * @typedef {{number: number, sender: TraceEvent|null, lastReply?: TraceEvent, database?: 'transaction'|'request', queue?: {last: import('../types').Moment|null},
- *   opening?: {last: import('../types').Moment|null}, former?: {last: import('../types').Moment|null}}} Request
+ * A request that was sent: by which event, the end of the last reply, `others` that the replies come after, and what it is of a database, with the end of
+ * the last reply in its transaction. If it opens or deletes a database: the end of its last reply, and that of the request before it with the same name.
+ * @typedef {{number: number, sender: TraceEvent|null, end?: Moment, others: Moment[], database?: 'transaction'|'request', queue?: {last: Moment|null},
+ *   opening?: {last: Moment|null}, former?: {last: Moment|null}}} Request
  */
 
 /** One for each document: `page.requests`. */
@@ -52,7 +53,7 @@ class Requests {
     const number = this.recording.next('request');
     this.recording.noteAsking(`send ${number}`);
     this.recording.log.name('request', number, { ...facts, url: this.#whole(facts?.address) });
-    return { number, sender: this.recording.isRunning() ? this.recording.running : null };
+    return { number, sender: this.recording.isRunning() ? this.recording.running : null, others: this.page.endedRequests.lastReplies() };
   }
 
   /**
@@ -71,12 +72,20 @@ class Requests {
   /** @param {any} owner its members differ by interface */
   #replaceXhr(owner) {
     const requests = this;
-    const { calls, dispatches } = this.page;
+    const { calls, dispatches, endedRequests } = this.page;
     calls.replaceCall(owner, 'abort', false);
+    replaceMethod(owner, 'abort', (native) => function abort() {
+      const result = apply(native, this, arguments);
+      endedRequests.end(dispatches.requests.get(this));
+      return result;
+    });
     replaceMethod(owner, 'open', (native) => function open(method, address) {
+      const former = dispatches.requests.get(this);
       dispatches.requests.delete(this); // what `open` dispatches is no reply of an earlier request
       requests.addresses.set(this, { method: String(method), address: sliceOf(String(address), 0, 200) });
-      return calls.around(() => apply(native, this, arguments), false);
+      const result = calls.around(() => apply(native, this, arguments), false);
+      endedRequests.end(former);
+      return result;
     });
     replaceMethod(owner, 'send', (native) => function send() {
       if (requests.recording.isOver) return apply(native, this, arguments);
@@ -95,6 +104,7 @@ class Requests {
       if (recording.isOver) return apply(native, window, arguments);
       const address = sliceOf(String((input && input.url) || input), 0, 200);
       const request = requests.send({ method: (options && options.method) || 'GET', address });
+      requests.page.endedRequests.noteFetch(request, input, options);
       return requests.#settle(apply(native, window, arguments), request, requests.#registerReply(), true);
     });
     each(BODY_CALLS, (name) => {
@@ -159,12 +169,15 @@ class Requests {
     }
     recording.startTask();
     const number = recording.next('dispatch');
-    recording.begin(`reply ${number} ${request.number}`, 'begin');
+    recording.begin(`reply ${number} ${request.number}`, 'begin', undefined, [request.sender, request.end?.event]);
     const beginning = recording.lastMoment();
     this.page.promises.settled.set(promise, beginning);
-    recording.push({ number, isInline: false });
-    recording.begin(`run ${number} 0 ${handler}`, 'handler', undefined, [beginning.event, request.sender, request.lastReply]);
-    request.lastReply = recording.running;
+    const dispatch = recording.push({ number, isInline: false, beginning: beginning.event });
+    this.page.endedRequests.order(dispatch, request);
+    this.page.joins.tellOf(dispatch);
+    const told = dispatch.toldEvents;
+    recording.begin(`run ${number} ${told ? 1 : 0} ${handler}`, 'handler', undefined, joined([beginning.event, request.sender], told));
+    recording.noteInside(dispatch);
     recording.enter('handler');
     call();
     recording.leave();

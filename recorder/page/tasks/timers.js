@@ -1,17 +1,20 @@
 // Timeouts, intervals, animation frames and idle callbacks. `setTimeout`, `setInterval`, `requestAnimationFrame` and `requestIdleCallback` are replaced
 // (hooked), and their callbacks wrapped.
 
-import { each, joined } from '../core/lists.js';
+import { each, joined, keep, mapped, takeFirst } from '../core/lists.js';
 import { replaceMethod } from '../core/replacing.js';
 import { settings } from '../core/settings.js';
 import { fits } from '../core/strings.js';
 import { Math, Number, String, apply } from '../core/taken.js';
 import { MADE_OF_TEXT } from '../log/log.js';
 import { nameOfFunction } from '../log/values.js';
+import { isBefore } from '../recording/order.js';
 
 /** The HTML Standard, "Timers": after so many nested ones a delay is at least so many milliseconds. */
 const DEEPEST_UNCLAMPED = 5;
 const LEAST_OF_NESTED = 4;
+/** So many callbacks of timeouts are remembered. */
+const MOST_RAN = 6;
 
 /** @typedef {import('../types').PageWindow} PageWindow */
 /** @typedef {import('../types').Moment} Moment */
@@ -19,6 +22,10 @@ const LEAST_OF_NESTED = 4;
 /**
  * A callback in a queue: who asked for it, the one before it in order, its end, and why it comes after that.
  * @typedef {{asker: TraceEvent, before: InQueue|null, ends: (Moment|null)[], why: string}} InQueue
+ */
+/**
+ * The callback of a timeout: its number, its delay, who set it, and its event.
+ * @typedef {{timeout: number, delay: number, asker: TraceEvent, event: TraceEvent}} RanTimeout
  */
 
 /** One for each document: `page.timers`. */
@@ -32,6 +39,11 @@ class Timers {
      * @type {InQueue|null}
      */
     this.lastFrame = null;
+    /**
+     * The last callbacks of timeouts.
+     * @type {RanTimeout[]}
+     */
+    this.ran = [];
   }
 
   start() {
@@ -109,16 +121,17 @@ class Timers {
    * @param {TraceEvent|null} asker
    * @param {Function} callback
    * @param {any[]} words whatever the page passes
-   * @param {{place?: InQueue|null, nesting?: number, timeout?: number}} more `place` of a callback in a queue, `nesting`: how deep a timer is nested, the
-   *   number of a timeout
+   * @param {{place?: InQueue|null, nesting?: number, timeout?: number, delay?: number}} more `place` of a callback in a queue, `nesting`: how deep a timer is
+   *   nested, the number and the delay of a timeout
    */
-  #run(line, kind, asker, callback, words, { place = null, nesting = 0, timeout }) {
+  #run(line, kind, asker, callback, words, { place = null, nesting = 0, timeout, delay = 0 }) {
     const { recording, page } = this;
     if (recording.isOver) return settings.standsStill ? undefined : apply(callback, page.window, words);
     recording.startTask();
     recording.nesting = nesting;
     recording.begin(line, kind, undefined, [asker]);
     recording.running.timeout = timeout;
+    if (timeout && asker) this.#noteRan({ timeout, delay, asker, event: recording.running });
     if (place?.before) {
       page.joins.here(place.before.ends, place.why);
       place.before = null;
@@ -130,6 +143,19 @@ class Timers {
       if (place) place.ends = [recording.moment()];
       recording.leave();
     }
+  }
+
+  /**
+   * The callback of a timeout comes after those of others that were set before it with no greater delay.
+   * @param {RanTimeout} one
+   */
+  #noteRan(one) {
+    const before = joined(this.ran);
+    const isEarlier = (/** @type {RanTimeout} */ { timeout, delay, asker }) => timeout < one.timeout && delay <= one.delay && isBefore(one.asker, asker);
+    one.event.earlier = () => mapped(keep(before, isEarlier), ({ event }) => event);
+    this.ran[this.ran.length] = one;
+    const oldest = this.ran.length > MOST_RAN ? takeFirst(this.ran) : undefined;
+    if (oldest) oldest.event.earlier = undefined; // else all events would be kept
   }
 
   /**
@@ -146,12 +172,13 @@ class Timers {
       // a setter that was not seen is no event, so the timeout gets order from nothing
       const isKnown = recording.isRunning();
       const nesting = timers.#nesting() + 1;
-      recording.noteAsking(`set ${timeout} ${timers.clamped(timers.delay(delay))} ${isKnown ? page.number : 'unknown'}`);
+      const compared = timers.clamped(timers.delay(delay));
+      recording.noteAsking(`set ${timeout} ${compared} ${isKnown ? page.number : 'unknown'}`);
       timers.#nameCallback('timeout', timeout, callback);
       const hold = steering.asks('set');
       const callable = timers.#callable(callback);
       const asker = recording.running;
-      const run = steering.limited('set', () => timers.#run(`timer ${timeout}`, 'timer', isKnown ? asker : null, callable, words, { nesting, timeout }));
+      const run = steering.limited('set', () => timers.#run(`timer ${timeout}`, 'timer', isKnown ? asker : null, callable, words, { nesting, timeout, delay: compared }));
       return steering.note(hold, window, 'timers', apply(native, window, [steering.callback(hold, run, (again) => apply(native, window, [again, 0])), delay]));
     });
   }

@@ -209,7 +209,7 @@ exports.cases = [
   },
   {
     page: 'promise-settled.html',
-    due: ['on reaction', 'timer', 'w second', 'timer', 'w first', 'inline promise reactions then', 'run one of several promises', 'run one of several promises',
+    due: ['on reaction', 'timer', 'w second', 'timer', 'w first', 'inline promise reactions then', 'run one of several promises',
       'run reaction', 'r first', 'r second'],
     races: [],
   },

@@ -181,6 +181,40 @@ exports.cases = [
       'send', 'reply', 'w head', 'close', 'reply', 'w items', 'close',
     ],
   },
+  // ---- requests that code ends: what is sent then is answered after them
+  {
+    page: 'search-aborts.html', // the click that ends the request can come before its reply, which `ready` shows
+    words: ['--do', 'click:#search', '--do', 'wait:200', '--do', 'click:#search', '--do', 'wait:200'],
+    due: ['run click', 'send', 'reply', 'w found', 'close', 'on the reply of an ended request', 'run click', 'send', 'reply', 'run the reply of an ended request',
+      'run reply of fetch', 'reply', 'run reply of fetch', 'w found'],
+    races: ['ready'],
+  },
+  {
+    page: 'search-aborts-late.html',
+    words: ['--do', 'click:#search', '--do', 'wait:200', '--do', 'click:#search', '--do', 'wait:200'],
+    due: ['timer', 'send', 'reply', 'w found', 'on the reply of an ended request', 'timer', 'send', 'run the reply of an ended request', 'w found'],
+    races: [],
+  },
+  {
+    page: 'search-of-two.html',
+    words: ['--do', 'click:#first', '--do', 'wait:200', '--do', 'click:#second', '--do', 'wait:200'],
+    due: ['send', 'w found', 'send', 'w found'],
+    never: ['on the reply of an ended request'],
+    races: ['control', 'found'],
+  },
+  {
+    page: 'search-twice.html',
+    words: ['--do', 'click:#search', '--do', 'wait:200', '--do', 'click:#search', '--do', 'wait:200'],
+    due: ['send', 'w found', 'send', 'w found'],
+    never: ['on the reply of an ended request'],
+    races: ['found', 'isOpen of control'],
+  },
+  {
+    page: 'xhr-again.html',
+    due: ['timer', 'send', 'send', 'reply', 'on the reply of an ended request', 'timer', 'send', 'send', 'reply', 'run the reply of an ended request'],
+    besides: [['w answer', 'w answer'], ['w text', 'w text']],
+    races: [],
+  },
   // what cannot happen and is listed all the same (docs/lost.md)
   { page: 'barrier.html', due: ['timer', 'w second', 'timer', 'w first', 'r second'], races: ['left', 'second'] },
 ];
