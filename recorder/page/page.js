@@ -46,6 +46,7 @@ import { Callbacks } from './tasks/callbacks.js';
 import { Chaos } from './tasks/chaos.js';
 import { Clock } from './tasks/clock.js';
 import { Connections } from './tasks/connections.js';
+import { EarlierReactions } from './tasks/earlier-reactions.js';
 import { EndedRequests } from './tasks/ended-requests.js';
 import { Jobs } from './tasks/jobs.js';
 import { Observers } from './tasks/observers.js';
@@ -108,6 +109,7 @@ class Page {
     this.callbacks = new Callbacks(this);
     this.jobs = new Jobs(this);
     this.promises = new Promises(this);
+    this.earlierReactions = new EarlierReactions(this);
     this.observers = new Observers(this);
     this.requests = new Requests(this);
     this.endedRequests = new EndedRequests(this);

@@ -11,8 +11,9 @@ import { TURNS_OF_A_CHECKPOINT } from '../recording/recording.js';
 /** @typedef {import('../types').Dispatch} Dispatch */
 /**
  * Who asks for a job, in which task, and at which promise `v`: what an `await` stores until the code goes on. The job comes after `others` too, for the
- * reason `why`, and settles the promise `makes`. It might be for a rejection alone.
- * @typedef {{v: unknown, site?: number, moment: Moment|null, task?: number, others?: (Moment|null)[], why?: string, makes?: object, isRejected?: boolean}} Asked
+ * reason `why`, and settles the promise `makes`. It might be for a rejection alone. As it begins, it might be after a job that comes after something else.
+ * @typedef {{v: unknown, site?: number, moment: Moment|null, task?: number, others?: (Moment|null)[], why?: string, makes?: object, isRejected?: boolean,
+ *   isAfterLate?: boolean}} Asked
  */
 
 /** One for each document: `page.jobs`. */
@@ -24,6 +25,11 @@ class Jobs {
     this.natives = page.natives;
     /** The number of the element that stands for promises. */
     this.place = 0;
+    /**
+     * The code after an `await` that runs now, if it was requested in another task.
+     * @type {Asked|null}
+     */
+    this.going = null;
   }
 
   start() {
@@ -47,6 +53,11 @@ class Jobs {
    * @param {Asked} asked
    */
   #othersOf(asked) {
+    return joined(this.#settlersOf(asked), this.page.earlierReactions.before(asked));
+  }
+
+  /** @param {Asked} asked */
+  #settlersOf(asked) {
     return joined(this.page.promises.momentsOf(asked.v, asked), asked.others);
   }
 
@@ -109,6 +120,7 @@ class Jobs {
     if (recording.isOver) return call();
     if (recording.contexts.length) return this.#runHere('call', call);
     this.endContinuation();
+    asked.isAfterLate = recording.running.hasLateJobs;
     if (!recording.isCheckpoint || this.#loneOf(asked)) return this.runAsHandler(this.#beginLone(asked), handler, asked, call);
     this.page.promises.noteFirst(asked);
     if (!this.#lacksOrder(asked)) return this.#runHere('job', call);
@@ -175,8 +187,10 @@ class Jobs {
     const { recording, page } = this;
     const asker = asked.moment && asked.moment.event;
     dispatch.beginning = dispatch.beginning || recording.running;
-    const others = keep(this.#othersOf(asked), (moment) => !!moment && moment.event !== asker);
-    const told = page.joins.tell(dispatch, others, asked.why || page.promises.whyOf(asked.v));
+    const tell = (/** @type {(Moment|null)[]} */ moments, /** @type {string} */ why) => (
+      page.joins.tell(dispatch, keep(moments, (moment) => !!moment && moment.event !== asker), why));
+    const earlier = tell(page.earlierReactions.before(asked), 'an earlier reaction at the promise');
+    const told = joined(earlier, tell(this.#settlersOf(asked), asked.why || page.promises.whyOf(asked.v)));
     if (told.length) dispatch.hasJoined = true;
     recording.begin(`run ${dispatch.number} ${told.length ? 1 : 0} ${handler}`, 'handler', undefined, joined([dispatch.beginning, asker], told));
     recording.running.awaits = dispatch.awaits;
@@ -226,6 +240,8 @@ class Jobs {
     const { recording } = this;
     if (!asked || recording.isOver || recording.contexts.length) return;
     this.endContinuation();
+    asked.isAfterLate = recording.running.hasLateJobs;
+    if (asked.task !== recording.task) this.#watchGoing(asked);
     recording.turns = TURNS_OF_A_CHECKPOINT;
     const isAlone = !recording.isCheckpoint || !!this.#loneOf(asked);
     if (!isAlone) this.page.promises.noteFirst(asked);
@@ -246,13 +262,25 @@ class Jobs {
     this.natives.queueMicrotask(() => { if (this.recording.top() === dispatch) this.endContinuation(); });
   }
 
+  /**
+   * The end of the code after an `await` is remembered: reactions at the same promise that are requested later come after it.
+   * @param {Asked} asked
+   */
+  #watchGoing(asked) {
+    this.going = asked;
+    this.natives.queueMicrotask(() => { if (this.going === asked) this.endContinuation(); });
+  }
+
   /** The code after an `await` is over, if it runs: something else begins. */
   endContinuation() {
-    const { recording } = this;
-    const top = recording.top();
-    if (!top || !top.isContinuation || recording.contexts.length) return;
-    recording.endPiece();
-    recording.finishTop();
+    const { recording, going } = this;
+    if (recording.contexts.length) return;
+    if (recording.top()?.isContinuation) {
+      recording.endPiece();
+      recording.finishTop();
+    }
+    this.going = null;
+    if (going && recording.isCheckpoint) this.page.earlierReactions.note(going);
   }
 }
 

@@ -202,13 +202,16 @@ class Promises {
    * @param {import('./jobs.js').Asked} asked
    * @param {unknown} result what the reaction returned
    */
-  noteMade({ v: promise, moment, makes: made }, result) {
+  noteMade(asked, result) {
     const { recording } = this;
+    const { v: promise, moment, makes: made } = asked;
     const several = this.#severalOf(promise);
     if (several && several.asker && several.asker === moment?.event) noteOfAsker(several, recording.lastMoment());
-    if (!made || recording.isOver || !recording.isCheckpoint || recording.contexts.length) return;
+    if (recording.isOver || !recording.isCheckpoint || recording.contexts.length) return;
+    const end = this.page.earlierReactions.note(asked);
+    if (!made) return;
     if (this.#isPromise(result)) this.settled.set(made, { by: result });
-    else if (!isThing(result) && recording.mayDispatch()) this.settled.set(made, recording.point(this.page.number));
+    else if (!isThing(result) && recording.mayDispatch()) this.settled.set(made, end || recording.point(this.page.number));
   }
 
   /**

@@ -78,6 +78,18 @@ exports.cases = [
       'run what settled the promise', 'run await', 'r items', 'w who'],
     races: ['who'],
   },
+  {
+    page: 'reactions-in-order.html', // of the two timeouts, that with the greater delay is set first
+    due: ['reply', 'w items', 'on an earlier reaction at the promise', 'timer', 'run an earlier reaction at the promise', 'run await', 'w items',
+      'timer', 'run an earlier reaction at the promise', 'run await', 'w items'],
+    races: ['items'],
+  },
+  {
+    page: 'reactions-of-two-clicks.html',
+    words: ['--do', 'click:#go', '--do', 'wait:300', '--do', 'click:#go'],
+    due: ['run click', 'reply', 'w used', 'on an earlier reaction at the promise', 'run click', 'run an earlier reaction at the promise', 'w used'],
+    races: [],
+  },
 
   {
     page: 'module-of-two.html',
