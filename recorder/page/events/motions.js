@@ -3,6 +3,7 @@
 
 import { findItem, keysOf } from '../core/lists.js';
 import { Map, WeakMap, apply } from '../core/taken.js';
+import { comesBefore } from '../recording/order.js';
 
 /** Event types, each with the type that is dispatched first. */
 const FIRST_OF_MOTION = new Map([
@@ -139,8 +140,18 @@ class Motions {
     const change = this.#changeAround(event);
     const started = this.started.get(event.target) || new Map();
     this.started.set(event.target, started);
-    if (change) started.set(nameOfMotion(event), { moment: change.moment, isOfSeveral: true });
-    else started.delete(nameOfMotion(event));
+    const name = nameOfMotion(event);
+    if (change) started.set(name, { moment: change.moment, isOfSeveral: true, last: this.#lastOf(started.get(name), change) });
+    else started.delete(name);
+  }
+
+  /**
+   * The end of the last event of the same motion before, if the change that started it comes before another one.
+   * @param {Cause|undefined} before
+   * @param {Change} change
+   */
+  #lastOf(before, change) {
+    return before?.moment && comesBefore(change.moment.event, before.moment.event) ? before.last : undefined;
   }
 
   /**

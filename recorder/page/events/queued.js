@@ -5,7 +5,7 @@ import { findItem, keep, takeFirst } from '../core/lists.js';
 import { Map, Set, WeakMap } from '../core/taken.js';
 import { isMedia } from '../core/things.js';
 import { spellName } from '../log/spelling.js';
-import { isBefore } from '../recording/order.js';
+import { comesBefore } from '../recording/order.js';
 import { MEDIA_IN_ORDER } from './media.js';
 import { FIRST_OF_MOTION, MOTIONS_IN_ORDER } from './motions.js';
 
@@ -52,6 +52,11 @@ class Queued {
     this.ran = [];
     /** @type {Cause|undefined} */
     this.rejecting = undefined;
+    /**
+     * The cause of the last `unhandledrejection` events.
+     * @type {Cause|undefined}
+     */
+    this.rejected = undefined;
   }
 
   // ---- expected events
@@ -100,7 +105,7 @@ class Queued {
    */
   #lastOf(target, type, { event }) {
     const last = this.noted.get(target)?.get(type);
-    return last?.moment && isBefore(event, last.moment.event) ? last : null;
+    return last?.moment && comesBefore(event, last.moment.event) ? last : null;
   }
 
   /**
@@ -203,12 +208,17 @@ class Queued {
   }
 
   /**
-   * All of one moment are of one task, in the order of the rejections: they have one stand-in element (rule 17).
+   * All of one moment are of one task, in the order of the rejections: they have one stand-in element (rule 17). Those of an event come after those of one
+   * before it.
    * @param {Event} event
    * @returns {Cause|undefined}
    */
   #rejectionOf({ type }) {
-    return type === 'unhandledrejection' ? this.rejecting : undefined;
+    if (type !== 'unhandledrejection') return undefined;
+    const { rejecting: cause, rejected: before } = this;
+    if (cause?.moment && before?.moment && cause !== before && comesBefore(cause.moment.event, before.moment.event)) cause.before = before;
+    this.rejected = cause;
+    return cause;
   }
 }
 

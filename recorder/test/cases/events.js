@@ -113,6 +113,16 @@ exports.cases = [
   },
 
   // ---- what always comes in one order
+  {
+    page: 'events-of-two-clicks.html',
+    words: ['--do', 'click:#next', '--do', 'wait:300', '--do', 'click:#next', '--do', 'wait:300'],
+    due: ['fire window hashchange', 'w current', 'on the event before', 'run click', 'fire window hashchange', 'run the event before', 'run changed', 'w current'],
+    besides: [['fire details#details toggle', 'on the event before', 'fire details#details toggle', 'run the event before', 'run toggles'],
+      ['fire div#box transitionend', 'on the event before', 'fire div#box transitionend', 'run the event before', 'run fades'],
+      ['fire div#list scroll', 'on the event before', 'fire div#list scroll', 'run the event before', 'run scrolls'],
+      ['fire window unhandledrejection', 'on the event before', 'fire window unhandledrejection', 'run the event before', 'run rejects']],
+    races: [],
+  },
   { page: 'transition-by-ancestor.html', due: ['timer', 'w state', 'new div#panel plain', 'fire div#panel transitionend', 'r state', 'w seen'], races: [] },
   {
     page: 'database-order.html',
