@@ -7,6 +7,7 @@ import { Map, Set } from '../core/taken.js';
 const FOCUS = ['focus', 'blur', 'focusin', 'focusout', 'change', 'select', 'selectionchange'];
 const EDITS = ['beforeinput', 'input', 'change', 'click', 'submit', 'reset', 'invalid', ...FOCUS];
 const OPENS = ['beforetoggle', 'toggle', 'cancel', 'close'];
+const STEPS = ['popstate', 'navigate', 'navigatesuccess', 'navigateerror'];
 const CLIPBOARD = ['copy', 'cut', 'paste'];
 /** By the type of the cause. */
 const CONSEQUENCES = new Map([
@@ -14,8 +15,8 @@ const CONSEQUENCES = new Map([
   ['pointerup', ['mouseup']],
   ['mousedown', [...FOCUS, 'selectstart', 'contextmenu']],
   ['mouseup', ['click', 'auxclick', 'contextmenu', 'dblclick', ...OPENS, ...FOCUS]],
-  ['click', ['click', 'dblclick', 'command', 'formdata', 'popstate', 'navigate', ...OPENS, ...EDITS]],
-  ['keydown', ['keypress', 'popstate', 'navigate', ...OPENS, ...CLIPBOARD, ...EDITS]],
+  ['click', ['click', 'dblclick', 'command', 'formdata', ...STEPS, ...OPENS, ...EDITS]],
+  ['keydown', ['keypress', ...STEPS, ...OPENS, ...CLIPBOARD, ...EDITS]],
   ['keypress', EDITS],
   ['paste', EDITS],
   ['cut', EDITS],

@@ -93,8 +93,9 @@ class Dispatches {
    * @param {Event} event
    */
   #isOfJob(event) {
-    if (settings.isDriven && !this.recording.isRunning()) return false;
-    return !this.recording.steering.isTrusted(event) || (event.type === 'slotchange' && this.recording.isCheckpoint);
+    const { recording, page } = this;
+    if (settings.isDriven && !recording.isRunning()) return false;
+    return !recording.steering.isTrusted(event) || (recording.isCheckpoint && (event.type === 'slotchange' || page.navigations.endsInJob(event)));
   }
 
   /**
@@ -139,7 +140,7 @@ class Dispatches {
    */
   #beginConsequence(dispatch) {
     const { recording } = this;
-    if (!dispatch.event.isTrusted) return false;
+    if (!dispatch.event.isTrusted || this.page.navigations.endsLater(dispatch.event)) return false;
     const { type } = dispatch.event;
     const now = this.natives.now();
     const height = heightOfLast(recording.dispatches, (one) => isConsequence(one, type, recording.task, now));

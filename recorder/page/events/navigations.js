@@ -17,6 +17,9 @@ import { isPlainObject } from '../core/things.js';
  * @typedef {{moment: Moment|null, key?: string}} Step
  */
 
+/** Whether an event is the end of a step. */
+const isEnd = (/** @type {Event} */ { type }) => type === 'navigatesuccess' || type === 'navigateerror';
+
 /** One for each document: `page.navigations`. */
 class Navigations {
   /** @param {import('../types').Page} page */
@@ -27,6 +30,11 @@ class Navigations {
     this.navigation = page.window.navigation;
     /** @type {Step[]} */
     this.steps = [];
+    /**
+     * The end of the last step that has begun.
+     * @type {import('./queued.js').Expected|undefined}
+     */
+    this.ending = undefined;
   }
 
   start() {
@@ -102,13 +110,56 @@ class Navigations {
     const { navigationType, hashChange, destination } = event;
     const { window, queued } = this.page;
     const isStep = navigationType === 'traverse';
-    const moment = isStep ? this.#takeStep(destination.key) : hashChange && queued.causeNow();
+    const isEndHeard = destination.sameDocument && this.#isEndHeard();
+    const moment = isStep ? this.#takeStep(destination.key) : (hashChange || isEndHeard) && queued.causeNow();
+    this.#expectNoEnd();
     if (!moment) return;
-    if (isStep) queued.note(this.navigation, 'navigate', moment, (one) => one === event);
+    const begin = isStep ? queued.note(this.navigation, 'navigate', moment, (one) => one === event) : undefined;
     if (!destination.sameDocument) return;
+    if (isEndHeard) this.#expectEnd(moment, begin);
     if (isStep) queued.note(window, 'popstate', moment);
     const { url } = destination;
     if (hashChange) queued.note(window, 'hashchange', moment, ({ newURL }) => newURL === url);
+  }
+
+  // ---- the end of a step
+
+  /** Whether the page listens to the end of steps. */
+  #isEndHeard() {
+    const { listened } = this.page.capturing;
+    return listened.has('navigatesuccess') || listened.has('navigateerror');
+  }
+
+  /**
+   * A step has begun that nobody has intercepted yet. Its end comes after its call, and after its `navigate`.
+   * @param {Moment} moment
+   * @param {import('./queued.js').Expected} [begin]
+   */
+  #expectEnd(moment, begin) {
+    this.ending = this.page.queued.note(this.navigation, null, moment, isEnd);
+    if (this.ending && begin) this.ending.before = begin;
+  }
+
+  /**
+   * Whether an event is the end of a step that nobody has intercepted: it comes in a job of what caused the step.
+   * @param {Event} event
+   */
+  endsInJob(event) {
+    return isEnd(event) && !!this.ending;
+  }
+
+  /**
+   * Whether an event is the end of any other step, which a promise of the page can delay.
+   * @param {Event} event
+   */
+  endsLater(event) {
+    return isEnd(event) && !this.ending;
+  }
+
+  /** Another step begins, or a handler is called for the last one: its end has come, or has another cause. */
+  #expectNoEnd() {
+    this.page.queued.drop(this.navigation, this.ending);
+    this.ending = undefined;
   }
 
   // ---- what a page does in place of a navigation
@@ -134,11 +185,11 @@ class Navigations {
     const navigations = this;
     const { navigation, recording, page: { jobs, dispatches, queued, promises } } = this;
     const handler = jobs.registerJob(callback, 'intercept');
-    const isEnd = (/** @type {Event} */ { type }) => type === 'navigatesuccess' || type === 'navigateerror';
     return function intercepted() {
       const call = () => apply(callback, this, arguments);
       if (recording.isOver) return call();
       const run = () => {
+        navigations.#expectNoEnd();
         const expected = queued.note(navigation, null, recording.moment(), isEnd);
         const result = call();
         if (expected && promises.isPlain(result)) navigations.#moveToEnd(expected, result);

@@ -118,10 +118,17 @@ class Queued {
     const isWaiting = findItem(this.waiting.get(target) || [], (one) => one.type === type);
     if (isWaiting) return;
     const noted = this.note(target, type, moment);
-    this.page.motions.afterFrames(FRAMES_OF_A_CALL, () => {
-      const list = this.waiting.get(target);
-      if (list) this.waiting.set(target, keep(list, (one) => one !== noted));
-    });
+    this.page.motions.afterFrames(FRAMES_OF_A_CALL, () => this.drop(target, noted));
+  }
+
+  /**
+   * An expected event is expected no longer.
+   * @param {EventTarget} target
+   * @param {Expected|undefined} noted
+   */
+  drop(target, noted) {
+    const list = this.waiting.get(target);
+    if (list) this.waiting.set(target, keep(list, (one) => one !== noted));
   }
 
   /**

@@ -360,6 +360,20 @@ exports.cases = [
     races: ['click of a#link'],
   },
   {
+    page: 'navigate-ends.html',
+    due: ['timer', 'inline Navigation navigate', 'run begins', 'back', 'inline Navigation navigatesuccess', 'run ends', 'back', 'timer', 'inline Navigation navigate',
+      'inline Navigation navigatesuccess', 'run ends', 'timer', 'w asked', 'fire Navigation navigate', 'run begins', 'on the event before',
+      'fire Navigation navigatesuccess', 'run the event before', 'run ends'],
+    races: [],
+  },
+  {
+    page: 'navigate-ends-by-click.html',
+    words: ['--do', 'click:#link'],
+    due: ['run click', 'w busy', 'inline Navigation navigate', 'run begins', 'back', 'inline Navigation navigatesuccess', 'run ends', 'back', 'inline window popstate',
+      'run steps', 'back'],
+    races: [],
+  },
+  {
     page: 'navigate-waits.html',
     due: ['timer', 'inline Navigation navigate', 'run goes', 'reply', 'w shown', 'new Navigation plain', 'fire Navigation navigatesuccess', 'run over', 'r shown'],
   },
