@@ -192,12 +192,14 @@ class Elements {
   // ---- what the window's load waits for
 
   /**
-   * Whether a parse step can come directly after the run of the script that runs.
+   * Whether a parse step can come directly after the run of the script that runs, also if a handler in it runs, as that of the script's `error`.
    * @param {Element} element what is to be made in that step
    */
   isBlocking(element) {
     const { recording, page } = this;
-    return element.ownerDocument === page.document && recording.running.blocks === page && page.tree.isParsing();
+    let { running } = recording;
+    while (running.insideOf) running = running.insideOf;
+    return element.ownerDocument === page.document && running.blocks === page && page.tree.isParsing();
   }
 
   /**

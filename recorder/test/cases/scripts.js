@@ -97,6 +97,12 @@ exports.cases = [
     ],
   },
   {
+    page: 'writes-fallback.html',
+    due: ['exec script', 'inline script error', 'run error', 'back', 'parse script sync', 'exec script', 'w library', 'back', 'parse p#after plain', 'exec script', 'r library'],
+    races: [],
+    losses: [/not served: 1 \(missing-library.js\)/],
+  },
+  {
     page: 'shadow-declarative.html',
     words: ['--do', 'click:#light'],
     due: [
