@@ -5,6 +5,7 @@ import { each, hasItem, joined, positionOf } from '../core/lists.js';
 import { fits } from '../core/strings.js';
 import { WeakSet, apply } from '../core/taken.js';
 import { isElement, isMedia } from '../core/things.js';
+import { LoadsInOrder } from './loads-in-order.js';
 
 /** The events of a page that is left, in their order. */
 const LEAVING = ['beforeunload', 'pagehide', 'visibilitychange', 'unload'];
@@ -51,6 +52,7 @@ class Loading {
      * @type {{number: number, end: import('../types').Moment|null}}
      */
     this.lastRun = { number: 0, end: null };
+    this.inOrder = new LoadsInOrder(page);
   }
 
   /**
@@ -212,7 +214,8 @@ class Loading {
     else if (later) sources.loads.delete(target);
     else this.loaded.add(target);
     this.recording.begin(`eload ${dispatch.number} ${number}`, 'begin');
-    this.#noteAwaited(dispatch, number, tree.isParsing() && tree.lastParsed === number && isEmptyFrame(target, elements));
+    this.inOrder.begins(dispatch, target, later);
+    this.#noteAwaited(dispatch, number, tree.isParsing() && tree.lastParsed === number && sources.isEmptyFrame(target), later);
     return true;
   }
 
@@ -267,12 +270,15 @@ class Loading {
    * @param {NewDispatch} dispatch
    * @param {number} number
    * @param {boolean} isOfParser whether the parser goes on only after it
+   * @param {import('./sources.js').Load|undefined} later
    */
-  #noteAwaited(dispatch, number, isOfParser) {
+  #noteAwaited(dispatch, number, isOfParser, later) {
     const { elements, kinds, tree } = this.page;
-    const isMade = elements.awaited.has(number) && !kinds.isLazy(/** @type {Element} */ (dispatch.target));
+    const element = /** @type {Element} */ (dispatch.target);
+    const isMade = elements.awaited.has(number) && !kinds.isLazy(element);
     if (isMade || tree.staticLoads.has(number)) dispatch.awaits = this.page;
     dispatch.whenClosed = () => {
+      this.inOrder.ends(element, later);
       if (isMade && !this.hasBegunLoad) this.awaited[this.awaited.length] = this.recording.lastMoment();
       if (isOfParser) this.page.observers.noteBeforeScript();
       this.page.inOrder.ends(number);
@@ -288,13 +294,5 @@ class Loading {
     if (this.page.elements.awaited.has(number) && !this.hasBegunLoad) this.awaited[this.awaited.length] = moment;
   }
 }
-
-/**
- * Whether a frame has no page but the empty one, which loads while the parser inserts the frame.
- * @param {Element} element
- * @param {import('./elements.js').Elements} elements
- */
-const isEmptyFrame = (element, elements) => element.localName === 'iframe' && !elements.has(element, 'srcdoc')
-  && fits(/^\s*(about:blank\s*)?$/i, elements.attribute(element, 'src') || '');
 
 export { Loading };

@@ -10,8 +10,8 @@ const BY_KIND = /^(link|input|image)$/;
 
 /**
  * An element that stands for another one in its next load: its number, and that of the page in it, if it is a frame and no page has it yet. If the
- * element had no source before, it stands for it in each further load, too.
- * @typedef {{number: number, inner: number, isPassing?: boolean, isFirst?: boolean, isOver?: boolean}} Load
+ * element had no source before, it stands for it in each further load, too. `setter` has set the source, if that is known.
+ * @typedef {{number: number, inner: number, setter?: import('../types').TraceEvent, isPassing?: boolean, isFirst?: boolean, isOver?: boolean}} Load
  */
 
 /** One for each document: `page.sources`. */
@@ -63,7 +63,7 @@ class Sources {
     const number = recording.next('element');
     const inner = kind === 'frame' ? recording.next('document') : 0;
     /** @type {Load} */
-    const load = { number, inner };
+    const load = { number, inner, setter: recording.isRunning() ? recording.running : undefined };
     this.loads.set(element, load);
     if (kind === 'async') elements.kinds.set(number, kind);
     recording.log.name('element', number, { standsFor: elements.number(element), why });
@@ -97,6 +97,15 @@ class Sources {
     if (!elements.has(element, 'src')) return true;
     const wasData = elements.kinds.get(elements.number(element)) === 'plain' && elements.attribute(element, 'src') !== '';
     return wasData && !insertions.started.has(element) && kinds.scriptType(element) !== null;
+  }
+
+  /**
+   * Whether a frame has no page but the empty one, which loads while the parser inserts the frame.
+   * @param {Element} element
+   */
+  isEmptyFrame(element) {
+    const { elements } = this;
+    return element.localName === 'iframe' && !elements.has(element, 'srcdoc') && fits(/^\s*(about:blank\s*)?$/i, elements.attribute(element, 'src') || '');
   }
 
   /**

@@ -78,6 +78,12 @@ exports.cases = [
     races: ['size'],
   },
   {
+    page: 'loads-in-order.html', // of the two timeouts, that with the greater delay is set first
+    due: ['eload img#dot', 'w shown', 'on the load before', 'new img#dot image', 'eload img#dot', 'run the load before', 'w shown'],
+    besides: [['eload iframe#inside', 'w told', 'on the load before', 'new iframe#inside frame', 'eload iframe#inside', 'run the load before', 'w told']],
+    races: ['shownLate', 'src of img#other'],
+  },
+  {
     page: 'style-sheet.html',
     due: [
       'parse link image', 'eload link', 'run load', 'w styled', 'load', 'r styled',
