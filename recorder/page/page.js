@@ -27,6 +27,7 @@ import { Calls } from './events/calls.js';
 import { Capturing } from './events/capturing.js';
 import { Causes } from './events/causes.js';
 import { Dispatches } from './events/dispatches.js';
+import { Guards } from './events/guards.js';
 import { Handlers } from './events/handlers.js';
 import { Media } from './events/media.js';
 import { Messages } from './events/messages.js';
@@ -95,6 +96,7 @@ class Page {
     this.motions = new Motions(this);
     this.media = new Media(this);
     this.navigations = new Navigations(this);
+    this.guards = new Guards(this);
     this.handlers = new Handlers(this);
     this.onHandlers = new OnHandlers(this);
     this.calls = new Calls(this);
@@ -151,7 +153,7 @@ class Page {
     this.recording.elementNumbers.delete(this.window); // a frame's window stays the same object for its next page
     if (this.recording.objects) this.recording.objects.addWindow(this);
     this.#beginDocument();
-    const parts = [this.chaos, this.handlers, this.onHandlers, this.capturing, this.calls, this.attributes, this.made, this.lookups, this.fields, this.causes, this.media, this.navigations, this.timers, this.callbacks,
+    const parts = [this.chaos, this.guards, this.handlers, this.onHandlers, this.capturing, this.calls, this.attributes, this.made, this.lookups, this.fields, this.causes, this.media, this.navigations, this.timers, this.callbacks,
       this.jobs, this.promises, this.observers, this.requests, this.endedRequests, this.connections, this.messages, this.reactions, this.clock, this.unseen];
     each(parts, (part) => part.start());
     this.#replaceToString();

@@ -77,7 +77,7 @@ class Handlers {
     const place = this.recording.noteAsking(`on ${handler}`);
     this.recording.steering.watch(target, type);
     this.page.elements.declaredNumber(target);
-    this.recording.access('w', this.slot(target, type, isListener ? handler : undefined), place);
+    if (!this.page.guards.isToCome(target, type)) this.recording.access('w', this.slot(target, type, isListener ? handler : undefined), place);
     this.nameHandler(handler, target, type, typeof given === 'function' ? given.name : undefined);
     this.page.capturing.capture(type);
     if (this.recording.isRunning()) this.page.dispatches.registrars.set(handler, this.recording.running);

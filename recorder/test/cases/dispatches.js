@@ -55,6 +55,13 @@ exports.cases = [
     never: ['run gone', 'w never'],
     races: ['click of button#go'],
   },
+  {
+    page: 'registers-if-to-come.html',
+    words: ['--slow', '2000'],
+    due: ['on shows', 'on tooLate', 'w load of img#other', 'run shows', 'run tooLate'],
+    never: ['w load of img#dot'],
+    races: ['load of img#other'],
+  },
   { page: 'signal-aborted.html', due: ['timer', 'timer', 'on hears', 'w app of window', 'timer', 'inline window app', 'run hears'], races: [] },
   {
     page: 'two-listeners.html',
