@@ -244,6 +244,18 @@ exports.cases = [
     due: ['w before', 'exec script', 'inline window error', 'run broken', 'r before', 'w faults', 'back', 'inline script load', 'r faults', 'dcl'],
     throws: true,
   },
+  {
+    page: 'module-broken-other.html', // not the error of the next deferred module, since an async one is to run too
+    due: ['wfire error', 'run broken', 'r before', 'exec script', 'w before'],
+    races: ['before', 'error of window'],
+    throws: true,
+  },
+  {
+    page: 'module-broken-inserted.html', // nor if a script is to run that code has inserted
+    due: ['wfire error', 'run broken', 'r before', 'exec script', 'w before'],
+    races: ['before', 'error of window'],
+    throws: true,
+  },
   { page: 'module-broken-async.html', due: ['wfire error', 'run broken', 'r before'], races: ['before', 'error of window'], throws: true },
   {
     page: 'no-javascript.html',

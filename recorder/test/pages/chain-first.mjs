@@ -1,0 +1,1 @@
+import './chain-second.mjs';
