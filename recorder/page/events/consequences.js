@@ -12,9 +12,9 @@ const CLIPBOARD = ['copy', 'cut', 'paste'];
 /** By the type of the cause. */
 const CONSEQUENCES = new Map([
   ['pointerdown', ['mousedown']],
-  ['pointerup', ['mouseup']],
+  ['pointerup', ['mouseup', 'lostpointercapture']],
   ['mousedown', [...FOCUS, 'selectstart', 'contextmenu']],
-  ['mouseup', ['click', 'auxclick', 'contextmenu', 'dblclick', ...OPENS, ...FOCUS]],
+  ['mouseup', ['click', 'auxclick', 'contextmenu', 'dblclick', 'lostpointercapture', ...OPENS, ...FOCUS]],
   ['click', ['click', 'dblclick', 'command', 'formdata', ...STEPS, ...OPENS, ...EDITS]],
   ['keydown', ['keypress', ...STEPS, ...OPENS, ...CLIPBOARD, ...EDITS]],
   ['keypress', EDITS],
@@ -49,4 +49,14 @@ function isConsequence(cause, type, task, now) {
   return cause.task === task || (LATER.has(type) && now - cause.lastTime < LONGEST_PAUSE);
 }
 
-export { hasConsequences, isConsequence };
+/**
+ * Whether the browser can have queued an event of a type in a dispatch of another type that ended so many milliseconds ago, before something else began.
+ * @param {string} causeType
+ * @param {string} type
+ * @param {number} pause
+ */
+function isQueuedBy(causeType, type, pause) {
+  return type !== 'keypress' && LATER.has(type) && pause < LONGEST_PAUSE && hasItem(CONSEQUENCES.get(causeType) || [], type);
+}
+
+export { hasConsequences, isConsequence, isQueuedBy };

@@ -1,11 +1,12 @@
 // Events that a call or a user act queues for a later task. Each is recorded as a `fire` at a stand-in element (docs/recording.md), which is
 // created in the action that caused the event: so rule 14 puts the cause before the event. Also `unhandledrejection`, whose cause is who rejected the promise.
 
-import { findItem, keep, takeFirst } from '../core/lists.js';
+import { findItem, heightOfLast, keep, takeFirst } from '../core/lists.js';
 import { Map, Set, WeakMap } from '../core/taken.js';
 import { isMedia } from '../core/things.js';
 import { spellName } from '../log/spelling.js';
 import { comesBefore } from '../recording/order.js';
+import { isQueuedBy } from './consequences.js';
 import { MEDIA_IN_ORDER } from './media.js';
 import { FIRST_OF_MOTION, MOTIONS_IN_ORDER } from './motions.js';
 
@@ -152,12 +153,12 @@ class Queued {
   #take(event, target) {
     if (FIRST_OF_MOTION.has(event.type)) return this.page.motions.causeOf(/** @type {import('./motions.js').MotionEvent} */ (event), target);
     if (isMedia(target)) return this.page.media.causeOf(event, target);
-    return this.takeNoted(event, target) || this.#rejectionOf(event) || this.page.messages.causeOf(event, target);
+    return this.takeNoted(event, target) || this.#rejectionOf(event) || this.page.messages.causeOf(event, target) || this.#actOf(event, target);
   }
 
   /**
    * The expected event that has come, which is expected no longer.
-   * @param {Event} event
+   * @param {{type: string}} event
    * @param {EventTarget} target
    */
   takeNoted(event, target) {
@@ -165,6 +166,20 @@ class Queued {
     const found = list && findItem(list, (one) => (one.type || event.type) === event.type && one.isIt(event));
     if (list && found) this.waiting.set(target, keep(list, (one) => one !== found));
     return found;
+  }
+
+  /**
+   * The close of the user's event that has queued an event by itself, if something else began between.
+   * @param {Event} event
+   * @param {EventTarget} target
+   */
+  #actOf({ type }, target) {
+    const { closed, natives } = this.recording;
+    const now = natives.now();
+    const height = heightOfLast(closed, (one) => isQueuedBy(one.type, type, now - one.time));
+    if (!height) return undefined;
+    this.note(target, type, closed[height - 1].moment);
+    return this.takeNoted({ type }, target);
   }
 
   /**

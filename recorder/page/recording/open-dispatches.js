@@ -10,6 +10,8 @@ const MOST_OPEN = 256;
 const MAY_DISPATCH = new Set(['exec', 'timer', 'tick', 'handler', 'close']);
 /** So many dispatches of one type at one target are known to come one after the other. */
 const MOST_LINKED = 6;
+/** So many closes are remembered. */
+const MOST_CLOSED = 6;
 
 /** A part of `Recording`, which extends it. */
 class OpenDispatches extends Lines {
@@ -37,6 +39,11 @@ class OpenDispatches extends Lines {
      * @type {Map<string, {close: import('../types').TraceEvent|null, starts: import('../types').TraceEvent[]}>}
      */
     this.places = new Map();
+    /**
+     * The closes of the browser's last dispatches, with the times of their last handlers.
+     * @type {{type: string, moment: import('../types').Moment, time: number}[]}
+     */
+    this.closed = [];
   }
 
   /** Whether the format allows an inline dispatch in the running event. */
@@ -94,8 +101,18 @@ class OpenDispatches extends Lines {
     this.noteInside(dispatch);
     const known = dispatch.place && this.places.get(dispatch.place);
     if (known) known.close = this.running;
+    if (dispatch.event?.isTrusted) this.#noteClosed(dispatch.event.type, dispatch.lastTime);
     this.running.awaits = dispatch.awaits;
     if (dispatch.whenClosed) dispatch.whenClosed();
+  }
+
+  /**
+   * @param {string} type
+   * @param {number} time
+   */
+  #noteClosed(type, time) {
+    this.closed[this.closed.length] = { type, moment: this.lastMoment(), time };
+    if (this.closed.length > MOST_CLOSED) takeFirst(this.closed);
   }
 
   /** The top dispatch is over. */

@@ -114,6 +114,19 @@ exports.cases = [
 
   // ---- what always comes in one order
   {
+    page: 'toggle-after-timer.html',
+    words: ['--do', 'click:#opens'],
+    due: ['run click', 'w step', 'close', 'new div#shown plain', 'back', 'timer', 'fire div#shown toggle', 'run toggle', 'r step'],
+    races: [],
+  },
+  {
+    page: 'pointer-lost.html',
+    words: ['--do', 'click:#slider'],
+    due: ['fire button#slider pointerup', 'w drag', 'close', 'inline button#slider mouseup', 'close', 'inline button#slider lostpointercapture', 'r drag', 'back',
+      'inline button#slider click', 'r drag', 'back', 'back'],
+    races: [],
+  },
+  {
     page: 'events-of-two-clicks.html',
     words: ['--do', 'click:#next', '--do', 'wait:300', '--do', 'click:#next', '--do', 'wait:300'],
     due: ['fire window hashchange', 'w current', 'on the event before', 'run click', 'fire window hashchange', 'run the event before', 'run changed', 'w current'],
