@@ -1,5 +1,5 @@
 // Loads of one element whose source is set again: the browser drops a load event that has not come by then, so each comes after the one before. The further
-// `src` of an image or a frame.
+// `src` of an image or a frame, and the page that a frame shows then.
 
 import { WeakMap } from '../core/taken.js';
 import { comesBefore } from '../recording/order.js';
@@ -25,11 +25,29 @@ class LoadsInOrder {
    * @param {import('./sources.js').Load|undefined} load what it loads, if a source was set later
    */
   begins(dispatch, element, load) {
+    dispatch.moments = this.#endsBefore(element, load);
+    dispatch.why = 'the load before';
+  }
+
+  /**
+   * A frame shows a page. Its scripts come after the load of the page before, if that was always there first.
+   * @param {Element} frame
+   * @param {import('./sources.js').Load|undefined} load
+   * @param {number} number of the page
+   */
+  beginsPage(frame, load, number) {
+    const ends = this.#endsBefore(frame, load);
+    if (ends.length) this.page.recording.formers.set(number, ends);
+  }
+
+  /**
+   * @param {Element} element
+   * @param {import('./sources.js').Load|undefined} load
+   */
+  #endsBefore(element, load) {
     const before = this.last.get(element);
     const isAfter = before?.setter && (before.setter.kind === 'parse' || (load?.setter && comesBefore(load.setter, before.setter)));
-    if (!before || !isAfter) return;
-    dispatch.moments = [before.end];
-    dispatch.why = 'the load before';
+    return before && isAfter ? [before.end] : [];
   }
 
   /**

@@ -127,8 +127,19 @@ class Sources {
    * @returns {number}
    */
   numberOfInner(frame, isPassing) {
-    const first = this.elements.frameDocuments.get(frame); // a lazy frame has none
     const load = this.loads.get(frame);
+    const number = this.#numberOfPage(frame, load, isPassing);
+    this.page.loading.inOrder.beginsPage(frame, load, number);
+    return number;
+  }
+
+  /**
+   * @param {Element} frame
+   * @param {Load|undefined} load
+   * @param {boolean} isPassing
+   */
+  #numberOfPage(frame, load, isPassing) {
+    const first = this.elements.frameDocuments.get(frame); // a lazy frame has none
     if (load && load.inner) {
       const { inner } = load;
       load.inner = 0;

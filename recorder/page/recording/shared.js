@@ -1,7 +1,7 @@
 // What the documents of a recording share: what is known of their elements, messages and modules.
 
 import { settings } from '../core/settings.js';
-import { Set, WeakMap, WeakSet } from '../core/taken.js';
+import { Map, Set, WeakMap, WeakSet } from '../core/taken.js';
 
 /** The base of `Recording`. */
 class Shared {
@@ -15,6 +15,11 @@ class Shared {
     this.elementNumbers = new WeakMap();
     /** @type {Set<number>} */
     this.declared = new Set();
+    /**
+     * By document: the end of the load of the page before in its frame.
+     * @type {Map<number, import('../types').Moment[]>}
+     */
+    this.formers = new Map();
     /** What is known of the form controls of all documents (controls.js). */
     this.controls = new WeakMap();
     /** What is known of when a user can reach elements (reach.js). */

@@ -176,6 +176,17 @@ exports.cases = [
     ],
   },
   {
+    page: 'frame-pages-in-order.html',
+    due: ['exec script', 'w told', 'w toldLate', 'eload iframe#inside', 'on the page before in the frame', 'timer', 'new iframe#inside frame',
+      'exec script', 'run the page before in the frame', 'w told', 'exec script', 'run the page before in the frame', 'w toldLate'],
+    races: [],
+  },
+  {
+    page: 'frame-pages-of-two.html', // either timeout can be the first
+    due: ['timer', 'new iframe#inside frame', 'w told', 'timer', 'new iframe#inside frame', 'w told'],
+    races: ['src of iframe#inside', 'told', 'toldLate'],
+  },
+  {
     page: 'frame-in-place.html', // its empty page has a load event, and hands its window to the next one
     due: [
       'parse iframe#inside frame', 'load', 'eload iframe#inside', 'run fill', 'parse script sync', 'exec script', 'w given', 'parse p#shown plain',
