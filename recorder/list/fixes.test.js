@@ -91,7 +91,7 @@ test('the change is "usually none" exactly in the sections that say so', async (
     assert.match(fixOfSame(fix), none, key);
   }
   for (const [type, part] of [['mouseover', HARMLESS], ['focus', LOOKS.late.part], ['click', LOOKS.late.part], ['keydown', LOOKS.late.part]]) {
-    const look = lookOf('late', type, '', false, isAgain(type));
+    const look = lookOf('late', type, '', { comesAgain: isAgain(type) });
     assert.strictEqual(partOf(look), part);
     assert.strictEqual(partOf(look, { race: 1, verdict: 'turned', words: '', effect: 'a lost act', differences: [{ kind: 'text' }] }), LOOKS.late.part, 'a replay that shows harm moves it');
   }

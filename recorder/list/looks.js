@@ -105,10 +105,11 @@ class Looks {
     const look = acts[k] ? 'late' : 'missed';
     const [, target, slot] = race.location.split(' ');
     const [type, handler = ''] = slot.split('/');
-    const isUnchanged = k === 1 && this.idle.isIdle(number, handler);
+    const isUnchanged = k === 1 && this.idle.isUnchanged(number, handler);
     const here = k === 0 ? 'here it came before the handler was set' : `here the handler was there${isUnchanged ? ', and changed nothing that is recorded' : ''}`;
     const isIdle = isUnchanged && (look === 'missed' || this.idle.isOfLittle(number, target, type));
-    return lookOf(look, `a handler that comes late: ${this.words.action(number)} may find none; ${here}`, detailOf(look, 'slot', type), isIdle, look === 'late' && isAgain(type));
+    const facts = { isUnchanged, isIdle, comesAgain: look === 'late' && isAgain(type) };
+    return lookOf(look, `a handler that comes late: ${this.words.action(number)} may find none; ${here}`, detailOf(look, 'slot', type), facts);
   }
 
   /**

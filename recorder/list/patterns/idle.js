@@ -3,8 +3,9 @@
 // much of what a handler does: it asks (`confirm`), stops the browser's own action, moves the cursor, writes to what only a library touches, or did its work at
 // an earlier event. So if the page registered a handler for what a user does at an element, its loss stays among the acts that are lost.
 
-/** Events of a pointer that moves, or of a scroll: a lost one comes again with the next move. */
-const OF_MOVES = /^(?:(?:mouse|pointer)(?:over|out|enter|leave|move|rawupdate)|scroll(?:end)?)$/;
+/** What a user does at an element. Other events come again with the next move of a pointer (`mouseover`, `scroll`), or follow from an act (`toggle`, `popstate`). */
+const DOINGS = new Set(['click', 'dblclick', 'auxclick', 'contextmenu', 'mousedown', 'mouseup', 'pointerdown', 'pointerup', 'touchstart', 'touchend', 'keydown',
+  'keypress', 'keyup', 'beforeinput', 'input', 'change', 'submit', 'reset', 'focus', 'focusin', 'blur', 'focusout', 'cut', 'copy', 'paste', 'drop']);
 /** Targets that hear the events of all elements: most handlers there only check whether the element is theirs. */
 const WHOLE_PAGE = new Set(['Window', 'HTMLDocument', 'html', 'body']);
 /** Actions that start a dispatch at an element, whose number is their third word. */
@@ -25,7 +26,7 @@ class IdleHandlers {
       if (word === 'run' && !this.runs.has(`${dispatch} ${handler}`)) this.runs.set(`${dispatch} ${handler}`, number);
     }
     /** @type {Map<number, boolean>} by the action of a run, whether it did nothing that the trace has but reads */
-    this.idle = new Map();
+    this.unchanged = new Map();
   }
 
   /**
@@ -33,11 +34,11 @@ class IdleHandlers {
    * @param {number} number of the action that starts the dispatch
    * @param {string} handler
    */
-  isIdle(number, handler) {
+  isUnchanged(number, handler) {
     const run = this.runs.get(`${this.actions.list[number].words[1]} ${handler}`) ?? -1;
     if (run <= number) return false;
-    let isOne = this.idle.get(run);
-    if (isOne === undefined) this.idle.set(run, isOne = this.hasOnlyReads(run));
+    let isOne = this.unchanged.get(run);
+    if (isOne === undefined) this.unchanged.set(run, isOne = this.hasOnlyReads(run));
     return isOne;
   }
 
@@ -53,8 +54,8 @@ class IdleHandlers {
   }
 
   /**
-   * Whether a user loses little if a handler that changed nothing comes late: the event comes again by itself, or it is at another element than the handler,
-   * which hears the events of the whole page.
+   * Whether a user loses little if a handler that changed nothing comes late: the event is nothing that a user does, or it is at another element than the
+   * handler, which hears the events of the whole page.
    * @param {number} number of the action that starts the dispatch
    * @param {string} target the number of the handler's element
    * @param {string} type
@@ -62,7 +63,7 @@ class IdleHandlers {
   isOfLittle(number, target, type) {
     const { words: [word, , element] } = this.actions.list[number];
     const isElsewhere = AT_ELEMENT.has(word) && this.ownOf(element) !== this.ownOf(target);
-    return OF_MOVES.test(type) || (isElsewhere && WHOLE_PAGE.has(this.elements[this.ownOf(target)]?.tag || ''));
+    return !DOINGS.has(type) || (isElsewhere && WHOLE_PAGE.has(this.elements[this.ownOf(target)]?.tag || ''));
   }
 
   /**

@@ -28,8 +28,8 @@ async function sectionsOf({ type, at, handler = at, does = READS, fire = `fire 1
   return ofRaces.map(({ look }) => partOf(look));
 }
 
-for (const type of ['mouseover', 'mouseout', 'mousemove', 'pointerenter', 'scroll']) {
-  test(`a lost ${type} comes again with the next move, so its handler is near the end if it changed nothing`, async () => {
+for (const type of ['mouseover', 'mouseout', 'mousemove', 'pointerenter', 'scroll', 'toggle']) {
+  test(`a ${type} is nothing that a user does, so its handler is near the end if it changed nothing`, async () => {
     assert.deepStrictEqual(await sectionsOf({ type, at: 1 }), [IDLE]);
     assert.deepStrictEqual(await sectionsOf({ type, at: 1, does: ['w var 0 y'] }), [isAgain(type) ? HARMLESS : LOSES], 'it changed something');
   });
@@ -53,7 +53,8 @@ for (const [type, at, handler] of /** @type {[string, number, number][]} */ ([['
 test('what looks like it: an event of the document or the window itself', async () => {
   assert.deepStrictEqual(await sectionsOf({ type: 'click', at: 5 }), [LOSES]);
   assert.deepStrictEqual(await sectionsOf({ type: 'keydown', at: 7, handler: 3 }), [LOSES], 'two numbers of one document');
-  assert.deepStrictEqual(await sectionsOf({ type: 'popstate', at: 4, fire: 'wfire 1 0 popstate' }), [LOSES]);
+  assert.deepStrictEqual(await sectionsOf({ type: 'focus', at: 4, fire: 'wfire 1 0 focus' }), [LOSES]);
+  assert.deepStrictEqual(await sectionsOf({ type: 'popstate', at: 4, fire: 'wfire 1 0 popstate' }), [IDLE], 'it follows from an act');
 });
 
 test('the two that look alike are two patterns, also with the same words', async () => {

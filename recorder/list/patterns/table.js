@@ -32,9 +32,10 @@ const LOOKS = {
 /** @typedef {keyof typeof LOOKS} LookKey */
 /**
  * A pattern as it was found in a race: `seen` says in words what was seen, and `here` which of the two orders the recording had; `rank` is its index in the
- * table. `detail` tells races of a pattern apart that do harm more often than others (list/rank.js). `isIdle`: the handler ran, changed nothing, and is of little
- * use to a user (idle.js). `comesAgain`: the event of a late handler comes again by itself.
- * @typedef {{look: LookKey, rank: number, name: string, part: string, seen: string, here: string, detail: Detail, isIdle: boolean, comesAgain?: boolean}} Look
+ * table. `detail` tells races of a pattern apart that do harm more often than others (list/rank.js). Of a late handler: `isUnchanged`, it ran and changed nothing;
+ * `isIdle`, a user then loses little without it (idle.js); `comesAgain`, its event comes again by itself.
+ * @typedef {{isUnchanged: boolean, isIdle: boolean, comesAgain: boolean}} Lateness
+ * @typedef {{look: LookKey, rank: number, name: string, part: string, seen: string, here: string, detail: Detail} & Lateness} Look
  */
 /** @typedef {''|'choosing'|'element'|'read'} Detail an event by which a user chooses something is lost; an element is looked up; a field is read, not written again */
 
@@ -68,23 +69,24 @@ const known = new Map();
 
 /**
  * A pattern with what was seen: one object for all races that have it. Called by list/looks.js.
- * @param {LookKey} look @param {Detail} detail @returns {Look}
+ * @param {LookKey} look @param {string} seen @param {Detail} detail @param {Partial<Lateness>} lateness
+ * @returns {Look}
  */
-function lookOf(look, seen = '', detail = '', isIdle = false, comesAgain = false) {
-  const key = `${look} ${detail} ${isIdle} ${comesAgain} ${seen}`;
+function lookOf(look, seen = '', detail = '', { isUnchanged = false, isIdle = false, comesAgain = false } = {}) {
+  const key = `${look} ${detail} ${isUnchanged} ${isIdle} ${comesAgain} ${seen}`;
   let one = known.get(key);
   const here = /(?:^|[;:] )here (.*)$/.exec(seen)?.[1] || '';
-  if (!one) known.set(key, one = { look, rank: RANKS.indexOf(look), ...LOOKS[look], seen, here, detail, isIdle, comesAgain });
+  if (!one) known.set(key, one = { look, rank: RANKS.indexOf(look), ...LOOKS[look], seen, here, detail, isUnchanged, isIdle, comesAgain });
   return one;
 }
 
 /**
  * By which pattern a line is shown if it covers several, the lowest first: typed text that is lost comes before events, and a late handler that changed nothing
- * or whose event comes again after all that may do harm.
- * @param {Pick<Look, 'look'|'rank'|'detail'|'isIdle'|'comesAgain'>} look
+ * or whose event comes again after all that may do harm, except if it changed nothing and a user chooses something by its event.
+ * @param {Pick<Look, 'look'|'rank'|'detail'|'isUnchanged'|'isIdle'|'comesAgain'>} look
  */
-function severityOf({ look, rank, detail, isIdle, comesAgain }) {
-  if (isIdle || comesAgain) return RANKS.indexOf('other') + 1 / 2;
+function severityOf({ look, rank, detail, isUnchanged, isIdle, comesAgain }) {
+  if (isIdle || comesAgain || (isUnchanged && detail !== 'choosing')) return RANKS.indexOf('other') + 1 / 2;
   if (look === 'field') return -2;
   if (look === 'late') return detail === 'choosing' ? -1 : RANKS.indexOf('act') + 1 / 2;
   return rank;
