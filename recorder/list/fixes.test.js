@@ -59,8 +59,9 @@ test('a late handler: of what can be disabled, of what cannot, of an event that 
   assert.deepStrictEqual(await fixesOfLate('body', 'click', writes), [FIXES.late], 'a page does not hide itself');
 });
 
-test('a late handler that changed nothing', async () => {
-  assert.deepStrictEqual(await fixesOfLate('button', 'click', ['r var 0 y']), [OF_IDLE]);
+test('a late handler that changed nothing, of a mouse that moves and of a click', async () => {
+  assert.deepStrictEqual(await fixesOfLate('button', 'mouseover', ['r var 0 y']), [OF_IDLE]);
+  assert.deepStrictEqual(await fixesOfLate('button', 'click', ['r var 0 y']), [FIXES.late]);
   assert.match(OF_IDLE, /^usually none: /);
   assert.ok(OF_IDLE.length <= WIDTH, String(OF_IDLE.length));
 });

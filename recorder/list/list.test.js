@@ -154,11 +154,11 @@ test('one problem of two clicks, told with both', async () => {
   assert.strictEqual(list[0].look.name, 'late handler');
 });
 
-test('a late handler that ran and only read is in a section of its own, at the end; one that wrote is not', async () => {
-  const late = (/** @type {string} */ access) => ['parse 0 1 plain', 'parse 0 2 async', 'parse 0 3 async', 'exec 2', 'w var 0 count', 'exec 3', 'on 1', 'w slot 1 click/1', 'w var 0 count',
-    'fire 1 1 click', 'r slot 1 click/1', 'run 1 0 1', access, 'close 1'];
+test('a late handler of a mouse that moves is in a section of its own, at the end, if it ran and only read; if it wrote, it is not', async () => {
+  const late = (/** @type {string} */ access) => ['parse 0 1 plain', 'parse 0 2 async', 'parse 0 3 async', 'exec 2', 'w var 0 count', 'exec 3', 'on 1', 'w slot 1 mouseover/1', 'w var 0 count',
+    'fire 1 1 mouseover', 'r slot 1 mouseover/1', 'run 1 0 1', access, 'close 1'];
   /** @type {Given} */
-  const facts = { elements: { 1: { tag: 'button', id: 'go' } }, handlers: { 1: { type: 'click', target: 1, place: [1, 3, 1] } }, dispatches: { 1: { type: 'click', act: 1000 } }, places: { 6: [1, 3, 1], 9: [1, 3, 1], 10: [1, 4, 1] } };
+  const facts = { elements: { 1: { tag: 'button', id: 'go' } }, handlers: { 1: { type: 'mouseover', target: 1, place: [1, 3, 1] } }, dispatches: { 1: { type: 'mouseover', act: 1000 } }, places: { 6: [1, 3, 1], 9: [1, 3, 1], 10: [1, 4, 1] } };
   const lines = async (/** @type {string} */ access) => linesOf(new Listing([await problemsOf(late(access), facts)], null));
   const idle = await lines('r var 0 other');
   assert.match(idle[0], /^2 problems \(other: 1; late handlers that changed nothing recorded: 1\)$/);

@@ -6,6 +6,7 @@
 const { FIRST_FIELD, FIRST_MODULE } = require('../common/numbers.js');
 const { isOfTree } = require('../races/spelled-locations.js');
 const { Accesses, isNothing } = require('./patterns/accesses.js');
+const { IdleHandlers } = require('./patterns/idle.js');
 const { UserActs } = require('./patterns/user-acts.js');
 const { Remaining } = require('./patterns/remaining.js');
 const { detailOf, lookOf } = require('./patterns/table.js');
@@ -49,13 +50,7 @@ class Looks {
     /** @type {Map<string, {line: number, delay: string, first: number}>} the line, the delay and the first tick of each interval */
     this.intervals = new Map();
     this.readIntervals(names);
-    /** @type {Map<string, number>} by dispatch and handler, the first action that runs it */
-    this.runs = new Map();
-    for (const { number, words: [word, dispatch, , handler] } of this.actions.list) {
-      if (word === 'run' && !this.runs.has(`${dispatch} ${handler}`)) this.runs.set(`${dispatch} ${handler}`, number);
-    }
-    /** @type {Map<number, boolean>} by the action of a run, whether it did nothing that the trace has but reads */
-    this.idle = new Map();
+    this.idle = new IdleHandlers(names, words.actions);
     this.remaining = new Remaining(report, this.accesses, words.actions);
   }
 
@@ -105,36 +100,14 @@ class Looks {
   handler(race, acts) {
     const k = race.modes.indexOf('r');
     if (k < 0) return null;
-    const event = this.words.action(race.actions[k]);
+    const number = race.actions[k];
     const look = acts[k] ? 'late' : 'missed';
-    const [type, handler = ''] = race.location.split(' ')[2].split('/');
-    const isIdle = k === 1 && this.isIdle(race.actions[k], handler);
-    const here = k === 0 ? 'here it came before the handler was set' : `here the handler was there${isIdle ? ', and changed nothing that is recorded' : ''}`;
-    return lookOf(look, `a handler that comes late: ${event} may find none; ${here}`, detailOf(look, 'slot', type), isIdle);
-  }
-
-  /**
-   * Whether a handler of an event ran and did nothing that the trace has but reads.
-   * @param {number} number of the action that starts the dispatch
-   * @param {string} handler
-   */
-  isIdle(number, handler) {
-    const run = this.runs.get(`${this.actions.list[number].words[1]} ${handler}`) ?? -1;
-    if (run <= number) return false;
-    let isOne = this.idle.get(run);
-    if (isOne === undefined) this.idle.set(run, isOne = this.hasOnlyReads(run));
-    return isOne;
-  }
-
-  /**
-   * Whether a run of a handler did nothing that the trace has but reads.
-   * @param {number} run its action
-   */
-  hasOnlyReads(run) {
-    const { list, lines } = this.actions;
-    const next = list[run + 1];
-    if (!next || !['run', 'close'].includes(next.words[0]) || next.words[1] !== list[run].words[1]) return false;
-    return lines.slice(list[run].line, next.line - 1).every((line) => line.startsWith('r '));
+    const [, target, slot] = race.location.split(' ');
+    const [type, handler = ''] = slot.split('/');
+    const isUnchanged = k === 1 && this.idle.isUnchanged(number, handler);
+    const here = k === 0 ? 'here it came before the handler was set' : `here the handler was there${isUnchanged ? ', and changed nothing that is recorded' : ''}`;
+    const isIdle = isUnchanged && (look === 'missed' || this.idle.isOfLittle(number, target, type));
+    return lookOf(look, `a handler that comes late: ${this.words.action(number)} may find none; ${here}`, detailOf(look, 'slot', type), isUnchanged, isIdle);
   }
 
   /**

@@ -53,12 +53,17 @@ test('an event by which a user chooses comes before one that comes again, and an
 });
 
 test('the section of late handlers that changed nothing: not if more differs when the page runs again', () => {
-  const idle = lookOf('late', 'here the handler was there, and changed nothing', 'choosing', true);
+  const idle = lookOf('late', 'here the handler was there, and changed nothing', 'choosing', true, true);
   assert.deepStrictEqual([partOf(idle), partOf(idle, differs('a lost act', ['event'])), partOf(idle, differs('a lost act', ['event', 'text']))].map((part) => part.split(' ')[0]), ['late', 'late', 'loses']);
   assert.deepStrictEqual(namesOf([{ name: 'idle', look: idle }, { name: 'other', look: lookOf('other') }, { name: 'same', look: lookOf('same') }]).pop(), 'idle');
   assert.strictEqual(rankOf(idle).reason, 'its handler ran, and changed nothing that is recorded');
   assert.strictEqual(isWorse(lookOf('late'), idle), true);
   assert.strictEqual(isWorse(idle, lookOf('late')), false);
+});
+
+test('a line that covers a handler that changed nothing is shown by it only if a user chooses something by its event', () => {
+  const unchanged = (/** @type {''|'choosing'} */ detail) => lookOf('late', 'here the handler was there, and changed nothing', detail, true);
+  assert.deepStrictEqual([isWorse(unchanged('choosing'), lookOf('other')), isWorse(unchanged(''), lookOf('other')), isWorse(lookOf('late'), lookOf('other'))], [true, false, true]);
 });
 
 test('each rank has its reason in words', () => {

@@ -1,8 +1,8 @@
 #!/usr/bin/env node
 'use strict';
 // applications.js [options] FOLDER [NAME..]: records the applications of applications/list.js, or those that are named, and writes the tables of
-// docs/measured/applications.md. Appends a line of JSON for each to FOLDER/applications.jsonl when it is done; at its end these replace the lines of
-// applications/applications.jsonl. All servers end with it, also by Ctrl-C.
+// docs/measured/applications.md and the goals of docs/evaluation.md. Appends a line of JSON for each to FOLDER/applications.jsonl when it is done; at its end
+// these replace the lines of applications/applications.jsonl. All servers end with it, also by Ctrl-C.
 
 const fs = require('node:fs');
 const path = require('node:path');
@@ -13,7 +13,8 @@ const { APPLICATIONS } = require('./applications/list.js');
 const { versionsOf, install } = require('./applications/installed.js');
 const { appendLine, linesOf, STORED, textOf } = require('./applications/lines.js');
 const { recordApplication } = require('./applications/record-application.js');
-const { documentOf } = require('./applications/tables.js');
+const { documentOf, goalsOf } = require('./applications/tables.js');
+const { withTexts } = require('./corpus/tables.js');
 const { writeWhole } = require('../common/whole-file.js');
 
 /**
@@ -30,7 +31,9 @@ const USAGE = `usage: applications.js [options] FOLDER [NAME..]
   --tables      records nothing: writes the tables of the lines that are there
 Ctrl-C stops it: with --missing, the same call goes on.`;
 const USAGE_STATUS = 2;
-const DOCUMENT = path.join(__dirname, '..', '..', 'docs', 'measured', 'applications.md');
+const DOCUMENTS = path.join(__dirname, '..', '..', 'docs');
+const DOCUMENT = path.join(DOCUMENTS, 'measured', 'applications.md');
+const EVALUATION = path.join(DOCUMENTS, 'evaluation.md');
 const DEFAULTS = { installs: false, isMissingOnly: false, tablesOnly: false, loads: 3, replays: 0 };
 /** @type {{[option: string]: 'installs'|'isMissingOnly'|'tablesOnly'}} */
 const FLAGS = { '--install': 'installs', '--missing': 'isMissingOnly', '--tables': 'tablesOnly' };
@@ -115,6 +118,7 @@ async function main(words) {
   const lines = linesOf(STORED, file);
   writeWhole(STORED, textOf(lines));
   writeWhole(DOCUMENT, documentOf(lines));
+  withTexts([fs.readFileSync(EVALUATION, 'utf8')], goalsOf(lines)).forEach((text) => writeWhole(EVALUATION, text));
   return 0;
 }
 

@@ -18,15 +18,15 @@ const NAMES = { files: [{ address: 'http://a/page.html', text: 'a\n' }], element
 
 /** Two replies that write the same: a line has a race that the group of another line covers. */
 const REPLIES = ['parse 0 1 inline', 'exec 1', 'send 1', 'send 2', 'reply 1 1', 'w var 0 open', 'w var 0 list', 'w var 0 more', 'close 1', 'reply 2 2', 'r var 0 open', 'w var 0 list', 'w var 0 more', 'close 2'];
-/** A late handler that changes nothing, and another race: a replay can move the first one to another section. */
-const IDLE = ['parse 0 1 plain', 'parse 0 2 async', 'parse 0 3 async', 'exec 2', 'on 1', 'w slot 1 click/1', 'w var 0 x', 'exec 3', 'w var 0 x', 'fire 1 1 click', 'r slot 1 click/1', 'run 1 0 1', 'r var 0 y', 'close 1'];
+/** A late handler of a mouse that moves, which changes nothing, and another race: a replay can move the first one to another section. */
+const IDLE = ['parse 0 1 plain', 'parse 0 2 async', 'parse 0 3 async', 'exec 2', 'on 1', 'w slot 1 mouseover/1', 'w var 0 x', 'exec 3', 'w var 0 x', 'fire 1 1 mouseover', 'r slot 1 mouseover/1', 'run 1 0 1', 'r var 0 y', 'close 1'];
 /** A line with the pattern of a race that it covers. */
 const LATE = ['parse 0 1 plain', 'parse 0 2 async', 'exec 2', 'w var 0 ready', 'on 1', 'w slot 1 click/1', 'fire 1 1 click', 'r var 0 ready', 'r slot 1 click/1', 'close 1'];
 const BUTTON = { elements: { 1: { tag: 'button', id: 'go' } }, handlers: { 1: { type: 'click', target: 1 } } };
 /** @type {[lines: string[], facts: Partial<Names>][]} */
 const MADE = [
   [REPLIES, { values: { 7: 'o', 8: 'o', 9: 'o', 12: 'o', 13: 'o', 14: 'o' }, befores: { 7: 'o' } }],
-  [IDLE, BUTTON],
+  [IDLE, { ...BUTTON, handlers: { 1: { type: 'mouseover', target: 1 } } }],
   [LATE, { ...BUTTON, values: { 5: 'o', 9: 'o' }, befores: { 5: 'o' } }],
 ];
 

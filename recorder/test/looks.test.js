@@ -5,6 +5,8 @@ const assert = require('node:assert');
 const { after, before, test } = require('node:test');
 const { Chromium } = require('../browser/chromium.js');
 const { Problems } = require('../list/problems.js');
+const { partOf } = require('../list/rank.js');
+const { IDLE, LOOKS } = require('../list/patterns/table.js');
 const { recordPage } = require('./support.js');
 const { judgeText } = require('./list-support.js');
 const { cases, isAt } = require('./replay-cases.js');
@@ -72,3 +74,26 @@ test('look-address.html', { timeout: 150000 }, async () => {
   const looks = report.races.map((race, k) => [problems.words.location(race.location).text, problems.ofRaces[k].look.name]);
   assert.deepStrictEqual(looks.filter(([text]) => text === 'isClosed'), [['isClosed', 'act against act']]);
 });
+
+/**
+ * Late handlers that change nothing in the recording, and what the user does: which are near the end of the list, and which look alike and are lost acts.
+ * @type {[page: string, words: string[], due: {[location: string]: string}][]}
+ */
+const OF_IDLE = [
+  ['look-idle.html', ['--do', 'wait:300', '--do', 'click:#link'], { 'mouseover of a#link': IDLE, 'click of the document': IDLE }],
+  ['look-idle-asks.html', ['--do', 'wait:300', '--do', 'click:#delete'], { 'click of a#delete': LOOKS.late.part }],
+  ['look-idle-marks.html', ['--do', 'wait:300', '--do', 'type:#text:a', '--do', 'click:#note'], { 'change of form#form': LOOKS.late.part }],
+];
+
+for (const [page, words, due] of OF_IDLE) {
+  test(page, { timeout: 150000 }, async () => {
+    const trace = await recordPage(browser, page, words, undefined, false);
+    const problems = new Problems(trace.text, JSON.parse(trace.names.toJson({})), await judgeText(trace.text));
+    const found = problems.report.races.map((race, k) => ({ text: problems.words.location(race.location).text, look: problems.ofRaces[k].look }));
+    for (const [location, part] of Object.entries(due)) {
+      const looks = found.filter(({ text }) => text === location).map(({ look }) => look);
+      assert.deepStrictEqual([...new Set(looks.map((look) => partOf(look)))], [part], `${location}: ${found.map(({ text }) => text)}`);
+      assert.ok(looks.every(({ here }) => /changed nothing that is recorded/.test(here)), looks.map(({ here }) => here).join());
+    }
+  });
+}

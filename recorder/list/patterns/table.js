@@ -5,7 +5,7 @@ const LOSES = 'loses what a user does';
 const THROWS = 'may throw';
 const REST = 'other';
 const HARMLESS = 'often harmless';
-/** The section of late handlers that ran in the recording, and of which it has nothing but reads. */
+/** The section of late handlers that ran in the recording and changed nothing in it, and without which a user loses little (idle.js). */
 const IDLE = 'late handlers that changed nothing recorded';
 /** The section of two acts of a user against each other: a page is not at fault for their order. */
 const APART = 'another input, not another order';
@@ -30,8 +30,9 @@ const LOOKS = {
 /** @typedef {keyof typeof LOOKS} LookKey */
 /**
  * A pattern as it was found in a race: `seen` says in words what was seen, and `here` which of the two orders the recording had; `rank` is its index in the
- * table. `detail` tells races of a pattern apart that do harm more often than others (list/rank.js). `isIdle`: the handler ran, and changed nothing.
- * @typedef {{look: LookKey, rank: number, name: string, part: string, seen: string, here: string, detail: Detail, isIdle: boolean}} Look
+ * table. `detail` tells races of a pattern apart that do harm more often than others (list/rank.js). `isUnchanged`: the handler ran, and changed nothing;
+ * `isIdle`: a user loses little without it (idle.js).
+ * @typedef {{look: LookKey, rank: number, name: string, part: string, seen: string, here: string, detail: Detail, isUnchanged: boolean, isIdle: boolean}} Look
  */
 /** @typedef {''|'choosing'|'element'|'read'} Detail an event by which a user chooses something is lost; an element is looked up; a field is read, not written again */
 
@@ -58,21 +59,21 @@ const known = new Map();
  * A pattern with what was seen: one object for all races that have it.
  * @param {LookKey} look @param {Detail} detail @returns {Look}
  */
-function lookOf(look, seen = '', detail = '', isIdle = false) {
-  const key = `${look} ${detail} ${seen}`;
+function lookOf(look, seen = '', detail = '', isUnchanged = false, isIdle = false) {
+  const key = `${look} ${detail} ${isUnchanged} ${isIdle} ${seen}`;
   let one = known.get(key);
   const here = /(?:^|[;:] )here (.*)$/.exec(seen)?.[1] || '';
-  if (!one) known.set(key, one = { look, rank: RANKS.indexOf(look), ...LOOKS[look], seen, here, detail, isIdle });
+  if (!one) known.set(key, one = { look, rank: RANKS.indexOf(look), ...LOOKS[look], seen, here, detail, isUnchanged, isIdle });
   return one;
 }
 
 /**
  * By which pattern a line is shown if it covers several, the lowest first: typed text that is lost comes before events, and a late handler that changed nothing
- * after all that may do harm.
- * @param {Pick<Look, 'look'|'rank'|'detail'|'isIdle'>} look
+ * after all that may do harm, except if a user chooses something by its event.
+ * @param {Pick<Look, 'look'|'rank'|'detail'|'isUnchanged'|'isIdle'>} look
  */
-function severityOf({ look, rank, detail, isIdle }) {
-  if (isIdle) return RANKS.indexOf('other') + 1 / 2;
+function severityOf({ look, rank, detail, isUnchanged, isIdle }) {
+  if (isIdle || (isUnchanged && detail !== 'choosing')) return RANKS.indexOf('other') + 1 / 2;
   if (look === 'field') return -2;
   if (look === 'late') return detail === 'choosing' ? -1 : RANKS.indexOf('act') + 1 / 2;
   return rank;

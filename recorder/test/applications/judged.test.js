@@ -9,7 +9,9 @@ const { temporaryFolder } = require('../cleanup.js');
 const { draw, faultsOf, judgementText } = require('./judged.js');
 const { linesOf, appendLine, textOf } = require('./lines.js');
 const { listOf, problemsOf } = require('./lists.js');
-const { documentOf, medianOf } = require('./tables.js');
+const { bugsIn, bugTable } = require('./confirmed.js');
+const { documentOf, goalsOf } = require('./tables.js');
+const { medianOf } = require('./times.js');
 
 const REPORT = 'report 1\nactions 12\naccesses 30\npairs 3\nraces 2\ngroups 1\nend\n';
 const listed = (/** @type {string} */ name, /** @type {string} */ part, hasLine = true) => (
@@ -71,4 +73,39 @@ test('the document has a row of each application', () => {
   assert.match(text, /^- other: not installed: x$/m);
   assert.match(text, /^- app, recording 1: not done: step 1$/m);
   assert.strictEqual(medianOf([null]), null);
+});
+
+const CLICK = 'A click at a[name=delete_link] is lost until its handler is registered at 1:257';
+/**
+ * The lists of two recordings of an application.
+ * @param {[part: string, summary: string][][]} lists
+ */
+const ofShaarli = (...lists) => bugsIn('shaarli', lists.map((list) => ({ lines: list.map(([part, summary]) => ({ part, summary })) })));
+
+test('a confirmed bug is in the section of its first line, by the number of this section in the list', () => {
+  const { 'shaarli-delete': [first, third] } = ofShaarli([['may throw', 'x'], ['may throw', CLICK], ['other', CLICK]], [['may throw', 'x'], ['other', 'y'], ['loses what a user does', CLICK]]);
+  assert.deepStrictEqual(first, { summary: CLICK, place: 2, lines: 3, part: 'may throw', section: 1, sections: 2 });
+  assert.deepStrictEqual([third?.place, third?.section, third?.sections], [3, 3, 3]);
+  assert.deepStrictEqual(ofShaarli([['may throw', 'x']]), { 'shaarli-delete': [null] });
+  assert.deepStrictEqual(bugsIn('shaarli', [null]), { 'shaarli-delete': [null] });
+  assert.deepStrictEqual(bugsIn('fossil', []), {});
+});
+
+test('the table of confirmed bugs has both recordings, once if they say one thing', () => {
+  const rowOf = (/** @type {import('./types').DoneLine['bugs']} */ bugs) => bugTable([{ ...lineOf(), application: 'shaarli', bugs }]).split('\n').filter((line) => line.startsWith('| shaarli-delete'))[0];
+  assert.match(rowOf(ofShaarli([['may throw', CLICK]], [['may throw', CLICK]])), / at 1:257 \| 1 of 1 \| may throw: 1 of 1 \|$/);
+  assert.match(rowOf(ofShaarli([['other', 'x']], [['other', 'x'], ['may throw', CLICK]])), / at 1:257 \| none; 2 of 2 \| none; may throw: 2 of 2 \|$/);
+  assert.match(rowOf(undefined), /\| none \| {2}\| {2}\|$/);
+});
+
+test('the goals, and by how much they are not reached', () => {
+  const [run] = lineOf().runs;
+  const late = { ...run, seconds: 70, figures: run.figures && { ...run.figures, accesses: 31000 } };
+  const large = { ...lineOf(), application: 'shaarli', runs: [late, late], bugs: ofShaarli([['may throw', CLICK]], [['other', 'x'], ['may throw', CLICK]]) };
+  const { applications: text } = goalsOf([lineOf(), large, { application: 'other', version: '', began: '', seconds: 0, failure: 'x' }]);
+  assert.match(text, /Reached, of 2 applications, each recorded twice, on a machine at a load of 1\.0 to 2\.0 /);
+  assert.match(text, /its last line \| yes: 4 of 4 \|/);
+  assert.match(text, /of its list \| no: 1 of \d+ in the first recordings \(.*mediawiki-arrow-key: no line.*\), 0 of \d+ in the second recordings \(.*shaarli-delete: section 2\) \|/);
+  assert.match(text, /2\.5 times as long \| yes: 2 of 2; 1\.0 times \(median\), 1\.0 at most \(\w+\) \|/);
+  assert.match(text, /at most 60 seconds \| no: shaarli took 70 and 70 seconds\. Its recording has 31,000 accesses and 2 races \|/);
 });

@@ -5,6 +5,7 @@ const fs = require('node:fs');
 const os = require('node:os');
 const path = require('node:path');
 const { PageCalls, readSaid, faultOf } = require('../corpus/calls.js');
+const { bugsIn } = require('./confirmed.js');
 const { Place } = require('./place.js');
 const { listOf, problemsOf } = require('./lists.js');
 
@@ -66,16 +67,18 @@ class ApplicationCalls extends PageCalls {
 }
 
 /**
+ * @param {string} name of the application
  * @param {ApplicationCalls} calls
  * @param {Options} options
  */
-async function recordingsOf(calls, { loads: times, replays }) {
+async function recordingsOf(name, calls, { loads: times, replays }) {
   const loads = await calls.loads(times);
   const found = [];
   for (const [k, words] of RUNS.entries()) found.push(await calls.recordList(String(k + 1), words));
   const replayed = replays ? await calls.recordList('replay', [...RUNS[0], '--replay', '--yes', '--most', String(replays)]) : null;
   const runs = found.map(({ list, ...rest }) => rest);
-  return { loads, runs, problems: problemsOf(found.map(({ list }) => list), replayed?.list || null) };
+  const lists = found.map(({ list }) => list);
+  return { loads, runs, problems: problemsOf(lists, replayed?.list || null), bugs: bugsIn(name, lists) };
 }
 
 /** How many processes want to run, on the average of the last minute. */
@@ -99,7 +102,7 @@ async function recordApplication(application, { version, chromium }, options) {
   const facts = () => ({ application: name, version, began: new Date(begin).toISOString(), seconds: (Date.now() - begin) / 1000 });
   try {
     const calls = new ApplicationCalls(await application.start(place), flow, folder);
-    const found = await recordingsOf(calls, options);
+    const found = await recordingsOf(name, calls, options);
     return { ...facts(), login, machine: { chromium, processors: os.cpus().length, loads: [before, loadOfMachine()] }, ...found };
   } catch (fault) {
     return { ...facts(), failure: String(fault instanceof Error ? fault.message : fault).slice(0, 500) };

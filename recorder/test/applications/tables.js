@@ -1,5 +1,5 @@
 'use strict';
-// docs/measured/applications.md: what was recorded of each application, and what the judged problems come to.
+// docs/measured/applications.md: what was recorded of each application, and what the judged problems come to. And the goals, for docs/evaluation.md.
 
 const { execFileSync } = require('node:child_process');
 const fs = require('node:fs');
@@ -8,7 +8,9 @@ const { IDLE, LOOKS } = require('../../list/patterns/table.js');
 const { tableOf, told } = require('../corpus/tables.js');
 const { bugTable } = require('./confirmed.js');
 const { judgementText } = require('./judged.js');
+const { goalTable } = require('./goals.js');
 const { APPLICATIONS } = require('./list.js');
+const { timesOf } = require('./times.js');
 
 /**
  * @typedef {import('./types').DoneLine} DoneLine
@@ -25,19 +27,13 @@ Counts are those of the first recording. Times of loads are medians on a quick n
 const JUDGEMENTS = path.join(__dirname, 'judgements.json');
 const LEFT_OUT = path.join(__dirname, 'left-out.json');
 
-/** @param {(number|null)[]} times */
-function medianOf(times) {
-  const known = times.filter((one) => one !== null).sort((a, b) => Number(a) - Number(b));
-  return known.length ? Number(known[Math.floor((known.length - 1) / 2)]) : null;
-}
-
 /** @param {number} number */
 const whole = (number) => Math.round(number).toLocaleString('en-GB');
 
 /** @param {DoneLine} line */
-function timesOf({ loads }) {
-  const [without, own] = [medianOf(loads.without), medianOf(loads.with)];
-  return without === null || own === null ? ['', ''] : [`${without.toFixed(1)}, ${own.toFixed(1)}`, without ? (own / without).toFixed(1) : ''];
+function timeCells(line) {
+  const times = timesOf(line);
+  return times ? [`${times.without.toFixed(1)}, ${times.own.toFixed(1)}`, (times.own / times.without).toFixed(1)] : ['', ''];
 }
 
 /** @param {{[part: string]: number}} sections */
@@ -49,7 +45,7 @@ function rowOf(line) {
   const [{ figures }] = runs;
   const numbers = figures ? [figures.actions, figures.accesses, figures.races, figures.lines].map(whole) : ['', '', '', ''];
   const counts = [...numbers, figures ? inSections(figures.sections) : ''];
-  return [application, told(version), login, ...timesOf(line), ...counts, `${problems.filter(({ isAgain }) => isAgain).length} of ${problems.length}`,
+  return [application, told(version), login, ...timeCells(line), ...counts, `${problems.filter(({ isAgain }) => isAgain).length} of ${problems.length}`,
     runs.map(({ status }) => status).join(', '), runs.map(({ seconds }) => seconds.toFixed(0)).join(', ')];
 }
 
@@ -93,8 +89,20 @@ function machineOf(done) {
 }
 
 /** @param {Line[]} lines */
+const doneOf = (lines) => /** @type {DoneLine[]} */ (lines.filter(({ failure }) => failure === undefined));
+
+/** @returns {import('./types').Judgements} */
+const readJudgements = () => JSON.parse(fs.readFileSync(JUDGEMENTS, 'utf8'));
+
+/**
+ * The text between the marks of docs/evaluation.md.
+ * @param {Line[]} lines
+ */
+const goalsOf = (lines) => ({ applications: goalTable(doneOf(lines), readJudgements()) });
+
+/** @param {Line[]} lines */
 function documentOf(lines) {
-  const done = /** @type {DoneLine[]} */ (lines.filter(({ failure }) => failure === undefined));
+  const done = doneOf(lines);
   const failed = /** @type {FailedLine[]} */ (lines.filter(({ failure }) => failure !== undefined));
   const commit = execFileSync('git', ['rev-parse', '--short=12', 'HEAD'], { cwd: __dirname, encoding: 'utf8' }).trim();
   const day = done.map(({ began }) => began.slice(0, 10)).sort().pop() || '';
@@ -106,7 +114,7 @@ function documentOf(lines) {
     `${ABOUT} Sections, in this order: ${SECTIONS.join('; ')}.`,
     tableOf(HEAD, done.map(rowOf)),
     '## Problems, judged by hand',
-    judgementText(JSON.parse(fs.readFileSync(JUDGEMENTS, 'utf8'))),
+    judgementText(readJudgements()),
     '## Bugs, confirmed in a browser without the recorder',
     bugTable(done),
     '## What the recordings reported',
@@ -116,4 +124,4 @@ function documentOf(lines) {
   ].join('\n\n').concat('\n');
 }
 
-module.exports = { documentOf, medianOf, leftOut };
+module.exports = { documentOf, goalsOf, leftOut };

@@ -78,6 +78,18 @@ export interface DoneLine {
   runs: Recorded[];
   loads: Loads;
   problems: Problem[];
+  /** By the name of a confirmed bug, its line in the list of each recording; null if none shows it. */
+  bugs?: { [name: string]: (BugLine | null)[] };
+}
+
+/** The line of a list that shows a confirmed bug: its place and the number of its section, from 1, and how many of both there are. */
+export interface BugLine {
+  summary: string;
+  place: number;
+  lines: number;
+  part: string;
+  section: number;
+  sections: number;
 }
 
 export interface FailedLine {

@@ -5,6 +5,7 @@ const fs = require('node:fs');
 const path = require('node:path');
 const { LOOKS, RANKS, detailOf, lookOf } = require('../../list/patterns/table.js');
 const { kindOf } = require('../../list/rank.js');
+const { linesOf, STORED } = require('../applications/lines.js');
 
 /** @typedef {{page: string, name: string, judgement: string}} Judged `page` is its address, or the application's name */
 /** @typedef {{name: string, verdict: string, effect?: string, words: string}} Replayed */
@@ -76,4 +77,16 @@ function sharesOf(judged, lists) {
  */
 const secondDraw = () => read(HERE, 'second-draw.json').problems;
 
-module.exports = { judgedOf, listsOf, secondDraw, sharesOf, HARMFUL };
+/**
+ * The judged problems of applications that have a line in the last recorded lists, each with its place there.
+ * @returns {(Judged & {place: number})[]}
+ */
+function lastListed() {
+  const lists = new Map(linesOf(STORED).map((line) => [line.application, line.failure === undefined ? line.problems : []]));
+  return judgedOf('applications').flatMap((one) => {
+    const found = lists.get(one.page)?.find(({ name }) => name === one.name);
+    return found ? [{ ...one, place: found.place }] : [];
+  });
+}
+
+module.exports = { judgedOf, lastListed, listsOf, secondDraw, sharesOf, HARMFUL };

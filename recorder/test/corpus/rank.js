@@ -8,7 +8,7 @@ const { execFileSync } = require('node:child_process');
 const path = require('node:path');
 const { writeWhole } = require('../../common/whole-file.js');
 const { LOOKS, RANKS } = require('../../list/patterns/table.js');
-const { judgedOf, listsOf, secondDraw, sharesOf, HARMFUL } = require('./judged-lists.js');
+const { judgedOf, lastListed, listsOf, secondDraw, sharesOf, HARMFUL } = require('./judged-lists.js');
 const { rankOf, sortByRank } = require('../../list/rank.js');
 
 /**
@@ -92,6 +92,7 @@ function report() {
   const [ofPages, ofApplications, ofBoth] = [pages, applications, [...pages, ...applications]].map((judged) => sharesOf(judged, lists));
   const at = (/** @type {Judged[]} */ judged, /** @type {(list: ListOfPage) => string[]} */ orderOf) => placed(judged, lists, orderOf);
   const both = [...pages, ...applications];
+  const last = lastListed();
   return `Written by recorder/test/corpus/rank.js at commit ${commit} on ${new Date().toISOString().slice(0, 10)}.
 
 # The order of the list
@@ -104,7 +105,7 @@ judged by hand (\`judgements.json\` in \`recorder/test/corpus\` and \`recorder/t
 ${shareRows(ofBoth).join('\n')}
 
 "Held out" takes the shares of the other set: that of pages for applications, that of applications for pages. Problems of applications have no replays here. A
-first entry that was not drawn counts as harmless. Of the second draw (\`second-draw.json\`, 50 problems of pages) no share is taken. The average precision is that of all judged problems in one list, by their places in the lists of their pages;
+first entry that was not drawn counts as harmless. Of the second draw (\`second-draw.json\`, 50 problems of pages) no share is taken. A row of lists as recorded has the problems that have a line in them. The average precision is that of all judged problems in one list, by their places in the lists of their pages;
 of equal places the harmless ones come first.
 
 | Order | Harmful of the judged in the first three of a list | In the first three, of the harmful | Lists with a harmful first entry, of those with a harmful one | Places of the harmful | Average precision |
@@ -113,6 +114,7 @@ ${[row('pages, by pattern alone', at(pages, byPattern)), row('pages, held out, w
     row('pages, by the shares, without replays', at(pages, (list) => ranked(list, false, ofBoth))), row('pages, by replays, then shares', at(pages, (list) => ranked(list, true, ofBoth))),
     row('applications, by pattern alone', at(applications, byPattern)), row('applications, held out', at(applications, (list) => ranked(list, false, ofPages))),
     row('applications, by the shares', at(applications, (list) => ranked(list, false, ofBoth))),
+    row(`applications, as listed in their last recording: ${last.length} of the ${applications.length} have a line there`, last),
     row('second draw of pages, as listed, without replays', secondDraw()),
     row('both, by pattern alone', at(both, byPattern)), row('both, by replays where there are some, then shares', at(both, (list) => ranked(list, true, ofBoth)))].join('\n')}
 `;
