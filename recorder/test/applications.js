@@ -12,6 +12,7 @@ const { run } = require('./cleanup.js');
 const { APPLICATIONS } = require('./applications/list.js');
 const { versionsOf, install } = require('./applications/installed.js');
 const { appendLine, linesOf, STORED, textOf } = require('./applications/lines.js');
+const { listAgain } = require('./applications/list-again.js');
 const { recordApplication } = require('./applications/record-application.js');
 const { documentOf, goalsOf } = require('./applications/tables.js');
 const { withTexts } = require('./corpus/tables.js');
@@ -28,15 +29,16 @@ const USAGE = `usage: applications.js [options] FOLDER [NAME..]
   --loads N     so many loads of each page with and without the recorder, for their times (3)
   --replays N   so many races of each list are run again in the other order (0)
   --missing     only those that have no line in FOLDER yet, or failed
+  --lists       records nothing: makes the lists of FOLDER's recordings again, and writes the tables
   --tables      records nothing: writes the tables of the lines that are there
 Ctrl-C stops it: with --missing, the same call goes on.`;
 const USAGE_STATUS = 2;
 const DOCUMENTS = path.join(__dirname, '..', '..', 'docs');
 const DOCUMENT = path.join(DOCUMENTS, 'measured', 'applications.md');
 const EVALUATION = path.join(DOCUMENTS, 'evaluation.md');
-const DEFAULTS = { installs: false, isMissingOnly: false, tablesOnly: false, loads: 3, replays: 0 };
-/** @type {{[option: string]: 'installs'|'isMissingOnly'|'tablesOnly'}} */
-const FLAGS = { '--install': 'installs', '--missing': 'isMissingOnly', '--tables': 'tablesOnly' };
+const DEFAULTS = { installs: false, isMissingOnly: false, listsOnly: false, tablesOnly: false, loads: 3, replays: 0 };
+/** @type {{[option: string]: 'installs'|'isMissingOnly'|'listsOnly'|'tablesOnly'}} */
+const FLAGS = { '--install': 'installs', '--missing': 'isMissingOnly', '--lists': 'listsOnly', '--tables': 'tablesOnly' };
 /** @type {{[option: string]: 'loads'|'replays'}} */
 const NUMBERS = { '--loads': 'loads', '--replays': 'replays' };
 
@@ -91,6 +93,37 @@ async function lineOf(application, chromium, options) {
   return recordApplication(application, { version, chromium }, options);
 }
 
+/**
+ * Records applications, and appends a line of each to a file.
+ * @param {string} file
+ * @param {Options} options
+ */
+async function recordAll(file, options) {
+  const { stdout } = await run(process.env.CHROMIUM || '/usr/bin/chromium', ['--version'], { longest: 60000 });
+  const chromium = stdout.trim().split(' ').slice(0, 2).join(' ');
+  const done = new Set(options.isMissingOnly ? linesOf(file).filter(({ failure }) => failure === undefined).map(({ application }) => application) : []);
+  const names = (options.only.length ? options.only : Object.keys(APPLICATIONS)).filter((name) => !done.has(name));
+  for (const name of names) {
+    const line = await lineOf(APPLICATIONS[name], chromium, options);
+    appendLine(file, line);
+    console.log(withoutCommands(inWords(line)));
+  }
+}
+
+/**
+ * Makes the lists of the recordings in a folder again, and appends the lines.
+ * @param {string} file
+ * @param {Options} options
+ */
+async function listAll(file, { folder, only }) {
+  for (const line of linesOf(file)) {
+    if (line.failure !== undefined || (only.length && !only.includes(line.application))) continue;
+    const again = await listAgain(line, folder);
+    appendLine(file, again);
+    console.log(withoutCommands(inWords(again)));
+  }
+}
+
 /** @param {string[]} words */
 async function main(words) {
   const options = optionsOf(words);
@@ -105,15 +138,7 @@ async function main(words) {
       console.error('applications.js: nothing done: it takes the built analyzer: ./er_cli --build, or ER_CLI names one');
       return USAGE_STATUS;
     }
-    const { stdout } = await run(process.env.CHROMIUM || '/usr/bin/chromium', ['--version'], { longest: 60000 });
-    const chromium = stdout.trim().split(' ').slice(0, 2).join(' ');
-    const done = new Set(options.isMissingOnly ? linesOf(file).filter(({ failure }) => failure === undefined).map(({ application }) => application) : []);
-    const names = (options.only.length ? options.only : Object.keys(APPLICATIONS)).filter((name) => !done.has(name));
-    for (const name of names) {
-      const line = await lineOf(APPLICATIONS[name], chromium, options);
-      appendLine(file, line);
-      console.log(withoutCommands(inWords(line)));
-    }
+    await (options.listsOnly ? listAll : recordAll)(file, options);
   }
   const lines = linesOf(STORED, file);
   writeWhole(STORED, textOf(lines));
