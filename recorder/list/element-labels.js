@@ -1,6 +1,6 @@
 'use strict';
-// What the tag of an element in the page's source says to a reader of the list: what distinguishes an element without an id (an unnamed `div`) from others of
-// its kind (its text or its classes), and its attributes.
+// Labels of elements for a reader of the list, from their tags in the page's source: what distinguishes an element without an id (an unnamed `div`) from
+// others of its kind (its text or its classes), and its attributes.
 
 const { shown } = require('../common/shown.js');
 

@@ -25,7 +25,7 @@ function isRandom(text) {
 }
 
 /**
- * An address with `*` in place of the digests. Called by source-text.js.
+ * An address with `*` in place of the digests. Called by source-text.js, for stable names; what else is in these: list/lasting.js.
  * @param {string} address without a query
  */
 const withoutDigest = (address) => address.replace(HEXADECIMAL, '$1*').replace(OF_EIGHT, (all, sign, text) => (isRandom(text) ? `${sign}*` : all));

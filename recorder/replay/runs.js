@@ -18,7 +18,10 @@ const { RunSteering } = require('./steering.js');
 /** @typedef {import('./types').FurtherRun} FurtherRun */
 /** @typedef {import('./types').ReplayOptions} ReplayOptions */
 
-/** What is held back is released so many milliseconds after the length of the recorded run, which had the processors alone. */
+/**
+ * What is held back is released so many milliseconds after the length of the recorded run, which had the processors alone. Earlier if the page is quiet:
+ * QUIET_WITH_REVERSALS in steering.js.
+ */
 const GRACE = 5000;
 /** How many lines the logs of all runs have that go on at once. */
 const LINES_AT_ONCE = 200000;

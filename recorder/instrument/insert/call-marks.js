@@ -57,6 +57,10 @@ const isValue = (node) => node !== undefined && node.type !== 'SpreadElement';
 
 /** Made by instrument/instrument.js. */
 class CallMarks extends ValueMarks {
+  /**
+   * Only the callee's object and the arguments get marks, so `this` stays, and `a?.m()` ends as before. What of a chain is not marked: `isLeftOut` and
+   * `mayEndBefore` of member-marks.js, which also marks a callee that is no method of METHODS, as any member.
+   */
   CallExpression(/** @type {CallExpression} */ node, /** @type {Scope} */ scope) {
     const { callee } = node;
     if (callee.type !== 'MemberExpression') super.CallExpression(node, scope);

@@ -1,7 +1,7 @@
 'use strict';
 // Marks properties of objects and elements of arrays too. A mark is around the object, the key or the value of an access that stays as it is: `a.b`
 // becomes `call(a).b`, and `a[k]` becomes `a[call(a,k)]`. So what the page's code does, and in which order, does not change: getters, proxies, `this` and
-// errors are its own. Optional chaining (`a?.b`; calls, `a?.m()`: call-marks.js), `super.a`, private members (`#a`), `key in object`, `a[k]++`.
+// errors are its own. Optional chaining (`a?.b`, also the member of a call, `a?.m()`; methods as `get`: call-marks.js), `super.a`, private members (`#a`), `key in object`, `a[k]++`.
 
 const { quote } = require('../marks/quote.js');
 const { nothing } = require('../walk/walker.js');

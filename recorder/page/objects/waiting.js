@@ -208,7 +208,8 @@ function mayRace({ kind }, { flags }) {
 }
 
 /**
- * What the log has of the values: that of a read, and of a write `AFTER<BEFORE`, with `+` between for a count.
+ * What the log has of the values: that of a read, and of a write `AFTER<BEFORE`, with `+` between for a count; undefined if no
+ * value is known: then the line has none. Called by #write.
  * @param {number} mode
  * @param {unknown} after
  * @param {unknown} before
