@@ -25,7 +25,8 @@ function mayReplayByItself({ isReplayed, isNeverReplayed, runs, isHeaded, userDa
 }
 
 /**
- * Why a recorded page is not run again by itself, in words; '' if it is. Called by page-races.js.
+ * Why a recorded page is not run again by itself, in words; '' if it is. Which requests are sent again: `lacking` of browser/responses/keep-answers.js, each to
+ * a server whose answer was not kept, also a GET (`isKept`, `hasKeptAnswer` in kept-answers.js). Called by page-races.js.
  * @param {import('./recording/recorder.js').Recorder} recorder
  */
 function whyNotByItself({ responses, intake, startTime, endTime }) {

@@ -1,6 +1,6 @@
 'use strict';
 // Requests that may change something on a server: each run of a replay sends them again. By the HTTP method: POST, PUT, DELETE and others may, GET and HEAD may
-// not.
+// not. What keeps er_page from replaying by itself: ../replay-by-itself.js.
 
 const { withoutCredentials } = require('../common/address.js');
 const { ORIGIN } = require('./folder.js');

@@ -176,6 +176,8 @@ class Looks {
 
   /**
    * A read or a lookup that found nothing, or that would without the write before it. What the same code wrote before is there in any order.
+   * The code around the read is not known: a lookup in `if (x)` has this pattern too. Only a read that finds nothing and whose action then writes is left out,
+   * as of a cache (`isOfCache`).
    * @param {Race} race
    */
   use({ location, modes, lines, actions }) {

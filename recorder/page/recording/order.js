@@ -17,6 +17,7 @@ const isBefore = (running, event) => isFound(running, event, false);
 
 /**
  * Whether an event comes before the running one in each browser: by `isBefore`, or by the rule about timeouts, which not all versions of the format have.
+ * Called by page/document/loads-in-order.js, page/events/motions.js, page/events/queued.js, page/tasks/earlier-reactions.js and page/tasks/ended-requests.js.
  * @param {TraceEvent} running
  * @param {TraceEvent} event
  */
@@ -51,8 +52,9 @@ function isInside(around, event) {
 }
 
 /**
- * An event, and those around it: what comes after one of these comes after the event too, if that is a point, or if its dispatch is over as the running
- * event begins, so not around that.
+ * An event and the events around it, from the inside to the outside (`insideOf`, `isPoint`: page/types.d.ts): what comes after one of these comes after the
+ * event too. It ends before an event that the running event is in, because that event is not over. The event around a point is always added. Called by
+ * `isFound`.
  * @param {TraceEvent} event
  * @param {TraceEvent} running
  */
