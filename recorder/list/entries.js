@@ -133,7 +133,7 @@ class Entries {
   }
 
   /**
-   * What takes each side's place in the other races of a problem. Called by loads-run.js.
+   * What takes each side's place in the other races of a problem: what is at the place that is shown. Called by loads-run.js.
    * @param {Listed} line
    */
   alsoOf({ run, first, races, sites: [one, two], look }) {
@@ -142,9 +142,14 @@ class Entries {
     const isTurned = (/** @type {number} */ race) => one !== two && ofRaces[race].sites[0] !== one;
     const leading = sides.leading(report.races[first], look.look);
     return [leading, 1 - leading].map((k) => {
-      const own = sides.actorOf(report.races[first], k);
+      const [own, where] = [sides.actorOf(report.races[first], k), sides.whereOf(report.races[first], k)];
       const side = isTurned(first) ? 1 - k : k;
-      const texts = new Set(races.slice(0, MOST_RACES).map((race) => sides.actorOf(report.races[race], isTurned(race) ? 1 - side : side)));
+      /** @type {Set<string>} */
+      const texts = new Set();
+      for (const race of races.slice(0, MOST_RACES)) {
+        const at = isTurned(race) ? 1 - side : side;
+        if (sides.whereOf(report.races[race], at) === where) texts.add(sides.actorOf(report.races[race], at));
+      }
       texts.delete(own);
       return also(own, [...texts]);
     });

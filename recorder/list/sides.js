@@ -143,9 +143,25 @@ class Sides {
    * @param {Race} race
    * @param {number} k
    */
-  actorOf({ location, modes, actions }, k) {
+  actorOf(race, k) {
+    return this.targetOf(race, k) || this.callbacks.of(race.actions[k]);
+  }
+
+  /**
+   * The target of a side that is an event which looks for handlers; '' if it is none.
+   * @param {Race} race @param {number} k
+   */
+  targetOf({ location, modes, actions }, k) {
     const event = location.startsWith('slot ') && modes[k] === 'r' ? this.eventInWords(actions[k]) : null;
-    return event ? event.target : this.callbacks.of(actions[k]);
+    return event ? event.target : '';
+  }
+
+  /**
+   * The place of a side; '' for an event: its targets have places of their own. Called by entries.js.
+   * @param {Race} race @param {number} k
+   */
+  whereOf(race, k) {
+    return this.targetOf(race, k) ? '' : this.place(this.words.placeOfAccess(race.lines[k], race.actions[k]));
   }
 
   /**
