@@ -7,7 +7,7 @@ const { OF_AGAIN, OF_IDLE, fixOfSame } = require('./fixes.js');
 const { alsoByCall, callOf } = require('./registering-calls.js');
 const { Sides, summaryOf } = require('./sides.js');
 const { pathInFolder } = require('./places.js');
-const { APART, HARMLESS, IDLE, SAME } = require('./patterns/table.js');
+const { APART, HARMLESS, IDLE, SAME, UNCHANGED } = require('./patterns/table.js');
 
 /**
  * @typedef {import('./listing.js').Listing} Listing
@@ -127,7 +127,7 @@ class Entries {
     const ofCall = look.look === 'late' ? others.filter((one) => one.look.look === 'late').map((one) => this.toldOf(one).sides[1]) : [];
     const byCall = ofCall.length ? alsoByCall(sides[1], ofCall) : '';
     return {
-      place, sentence, look: look.name, part: this.listing.partOf(line), name, more: this.more(line, others), details: this.details(line),
+      place, sentence, look: look.name, part: this.listing.partOf(line), name, more: this.more(line, others), details: this.details(line, others),
       sides: sides.map((side, k) => ({ ...side, also: [alsos[k], k === 1 ? byCall : ''].filter(Boolean).join(' ') })),
     };
   }
@@ -165,15 +165,16 @@ class Entries {
 
   /**
    * What the list says of a problem besides its sides.
-   * @param {Listed} line @returns {Entry['details']}
+   * @param {Listed} line @param {Listed[]} others @returns {Entry['details']}
    */
-  details(line) {
+  details(line, others) {
     const { look } = line;
+    const here = others.some((one) => one.look.look === look.look && !one.look.isUnchanged) ? look.here.replace(UNCHANGED, '') : look.here;
     const cause = this.causeOf(line);
     const replay = this.listing.verdictOf(line);
     const seen = this.listing.seenInWords(line);
     /** @type {Entry['details']} */
-    const all = [['cause', cause ? summaryOf(cause) : ''], ['recorded', look.here], ['replayed', replay ? replay.sentence || replay.words : this.notReplayed(line)], ['runs', seen], ['fix', this.fixOf(line)]];
+    const all = [['cause', cause ? summaryOf(cause) : ''], ['recorded', here], ['replayed', replay ? replay.sentence || replay.words : this.notReplayed(line)], ['runs', seen], ['fix', this.fixOf(line)]];
     return all.filter(([, text]) => text);
   }
 

@@ -48,3 +48,48 @@ test('"also" names only callbacks whose access is at the place that is shown', a
 test('of several races that is shown whose two places most have', async () => {
   assert.deepStrictEqual((await repliesOf([69, 98, 98, 98, 98])).map(([place]) => place), ['app.js:98:6', 'app.js:98:6']);
 });
+
+/**
+ * Handlers that one call of a library registers, each with the lines of its run.
+ * @param {[target: number, type: string, does: string][]} events
+ * @param {string} id the start of the elements' ids; '' if they have none, and are one in the names of problems
+ */
+async function entriesOf(events, id = 'go') {
+  const on = events.flatMap(([target, type], k) => [`on ${k + 1}`, `w slot ${target} ${type}/${k + 1}`]);
+  const fires = events.flatMap(([target, type, does], k) => [`fire ${k + 1} ${target} ${type}`, `r slot ${target} ${type}/${k + 1}`, `run ${k + 1} 0 ${k + 1}`, does, `close ${k + 1}`]);
+  const made = [1, 2, 3, 4].map((number) => `parse 0 ${number} plain`);
+  const place = /** @type {Place} */ ([1, 1, 1]);
+  const listing = await listingOf([...made, 'parse 0 9 async', 'exec 9', ...on, ...fires], {
+    elements: { ...Object.fromEntries([1, 2, 3, 4].map((number) => [number, { tag: number < 3 ? 'a' : 'button', ...id ? { id: `${id}${number}` } : {}, place: /** @type {Place} */ ([0, number, 1]) }])), 9: { tag: 'script', source: 'app.js' } },
+    handlers: Object.fromEntries(events.map(([target, type], k) => [k + 1, { type, target, place, way: /** @type {Place} */ ([2, 1, 1]) }])),
+    places: Object.fromEntries(events.map((_, k) => [1 + 6 + 2 * (k + 1), place])),
+    dispatches: Object.fromEntries(events.map(([, type], k) => [k + 1, { type, act: 1000 * (k + 1) }])),
+  });
+  return listing.told().map(({ line, others }) => listing.entryOf(line, others));
+}
+
+/** @param {import('./entries.js').Entry} entry @param {string} label */
+const detailOf = ({ details }, label) => details.find(([one]) => one === label)?.[1];
+
+const WRITES = 'w var 0 x';
+const READS = 'r var 0 y';
+
+test('an entry says that a handler changed nothing only if that holds for all elements that it names', async () => {
+  const [mixed, ...rest] = await entriesOf([[1, 'click', READS], [2, 'dblclick', WRITES]]);
+  assert.deepStrictEqual(rest, []);
+  assert.deepStrictEqual([mixed.sides[1].what, detailOf(mixed, 'recorded')], ['a#go2', 'the handler was there'], 'it is shown by the one that changed something');
+  assert.match(mixed.sides[1].also, /^\(also click at a#go1: registered by the same call\)$/);
+  const [unchanged] = await entriesOf([[1, 'click', READS], [2, 'dblclick', READS]]);
+  assert.strictEqual(detailOf(unchanged, 'recorded'), 'the handler was there, and changed nothing that is recorded');
+  const [ranked] = await entriesOf([[1, 'click', READS], [2, 'keydown', WRITES]]);
+  assert.deepStrictEqual([ranked.sides[1].verb, detailOf(ranked, 'recorded')], ['click at', 'the handler was there'], 'a click comes before a key');
+});
+
+test('of a problem of two elements that shows which changed something', async () => {
+  const recordedOf = async (/** @type {string} */ first, /** @type {string} */ second) => {
+    const told = await entriesOf([[1, 'click', first], [2, 'click', second]], '');
+    return told.map((entry) => [entry.sides[1].what, entry.sides[1].also, entry.more, detailOf(entry, 'recorded')]);
+  };
+  assert.deepStrictEqual(await recordedOf(READS, WRITES), [['a "Two"', '(also "One")', 'and 1 more race', 'the handler was there']]);
+  assert.deepStrictEqual(await recordedOf(READS, READS), [['a "One"', '(also "Two")', 'and 1 more race', 'the handler was there, and changed nothing that is recorded']]);
+});
