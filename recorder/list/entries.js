@@ -3,7 +3,7 @@
 // the printed report.
 
 const { ASKED } = require('./callbacks.js');
-const { OF_AGAIN, OF_IDLE, fixOfSame } = require('./fixes.js');
+const { OF_AGAIN, OF_IDLE, fixOfNone, fixOfSame, fixOfSeveral } = require('./fixes.js');
 const { alsoByCall, callOf } = require('./registering-calls.js');
 const { Sides, summaryOf } = require('./sides.js');
 const { pathInFolder } = require('./places.js');
@@ -94,15 +94,25 @@ class Entries {
   }
 
   /**
-   * A usual change for a problem. Called by listing.js.
-   * @param {Listed} line
+   * A usual change for a problem, and for the others of its entry. Called by listing.js.
+   * @param {Listed} line @param {Listed[]} others
    */
-  fixOf(line) {
+  fixOf(line, others) {
     const part = this.listing.partOf(line);
-    if (part === IDLE) return OF_IDLE;
     const { fix } = this.toldOf(line);
-    if (part === HARMLESS && line.look.comesAgain) return OF_AGAIN;
-    return part === SAME ? fixOfSame(fix) : fix;
+    const own = part === IDLE ? fixOfNone(OF_IDLE, fix) : part === HARMLESS && line.look.comesAgain ? fixOfNone(OF_AGAIN, fix) : part === SAME ? fixOfSame(fix) : fix;
+    return this.isOfSeveral(line, others) ? fixOfSeveral(own, others.map((one) => this.toldOf(one).fix)) : own;
+  }
+
+  /**
+   * Whether the late handlers of an entry are for several elements.
+   * @param {Listed} line @param {Listed[]} others
+   */
+  isOfSeveral(line, others) {
+    if (line.look.look !== 'late') return false;
+    const elementOf = (/** @type {Listed} */ one) => this.toldOf(one).sides[1].what;
+    const isAlso = (/** @type {Listed} */ one) => one.worst === undefined && !!this.alsoOf(one)[1];
+    return [line, ...others.filter((one) => one.look.look === 'late')].some((one) => elementOf(one) !== elementOf(line) || isAlso(one));
   }
 
   /**
@@ -174,7 +184,7 @@ class Entries {
     const replay = this.listing.verdictOf(line);
     const seen = this.listing.seenInWords(line);
     /** @type {Entry['details']} */
-    const all = [['cause', cause ? summaryOf(cause) : ''], ['recorded', here], ['replayed', replay ? replay.sentence || replay.words : this.notReplayed(line)], ['runs', seen], ['fix', this.fixOf(line)]];
+    const all = [['cause', cause ? summaryOf(cause) : ''], ['recorded', here], ['replayed', replay ? replay.sentence || replay.words : this.notReplayed(line)], ['runs', seen], ['fix', this.fixOf(line, others)]];
     return all.filter(([, text]) => text);
   }
 

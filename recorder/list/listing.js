@@ -283,7 +283,7 @@ class Listing {
    * @param {Listed} line
    */
   fixOf(line) {
-    return this.entries.fixOf(line);
+    return this.entries.fixOf(line, []);
   }
 }
 

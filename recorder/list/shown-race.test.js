@@ -93,3 +93,12 @@ test('of a problem of two elements that shows which changed something', async ()
   assert.deepStrictEqual(await recordedOf(READS, WRITES), [['a "Two"', '(also "One")', 'and 1 more race', 'the handler was there']]);
   assert.deepStrictEqual(await recordedOf(READS, READS), [['a "One"', '(also "Two")', 'and 1 more race', 'the handler was there, and changed nothing that is recorded']]);
 });
+
+test('the change for a problem of several elements is after the last one', async () => {
+  const fixOf = async (/** @type {[target: number, type: string, does: string][]} */ events, id = '') => detailOf((await entriesOf(events, id))[0], 'fix');
+  const call = 'make this call right after the last element that it needs, its libraries before it';
+  assert.strictEqual(await fixOf([[3, 'click', WRITES], [4, 'click', WRITES]]), `${call}, or disable the elements until then`);
+  assert.strictEqual(await fixOf([[1, 'click', WRITES], [2, 'click', WRITES]]), `${call}, or hide the elements until then`);
+  assert.strictEqual(await fixOf([[3, 'click', WRITES], [2, 'dblclick', WRITES]], 'go'), `${call}, or hide the elements until then`, 'a link cannot be disabled');
+  assert.strictEqual(await fixOf([[3, 'click', WRITES], [3, 'dblclick', WRITES]], 'go'), 'make this call right after the element, its libraries before it, or disable the element until then');
+});

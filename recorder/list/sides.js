@@ -227,16 +227,20 @@ class Sides {
   }
 
   /**
-   * Of an event that looks for handlers: the tag of its target, what the browser does without a handler, and whether a library registers it.
+   * Of an event that looks for handlers: the tag of its target, what the browser does without a handler, whether a library registers it, and in what the page
+   * itself registers one of the document or the window.
    * @param {Race} race
+   * @returns {{isByLibrary?: boolean, ofPage?: ''|'script'|'callback', tag?: string, otherwise?: string}}
    */
   lookUpOf({ location, modes, lines, actions }) {
     const reader = modes.indexOf('r');
     if (!location.startsWith('slot ') || reader < 0) return {};
     const isByLibrary = !!wayOf(this.words, lines[1 - reader], location, this.words.placeOfAccess(lines[1 - reader], actions[1 - reader]));
+    const from = this.words.actions.list[this.firstOf(actions[1 - reader])].words[0] === 'exec' ? 'script' : 'callback';
+    const ofPage = !isByLibrary && this.elements.isOfPage(location.split(' ')[1]) ? from : '';
     const { words: [word, , element, type] } = this.words.actions.list[this.firstOf(actions[reader])];
-    if (!EVENTS.has(word) || word === 'wfire') return { isByLibrary };
-    return { isByLibrary, tag: this.elements.tagOf(element), otherwise: this.elements.withoutHandler(element, this.words.unescape(type)) };
+    if (!EVENTS.has(word) || word === 'wfire') return { isByLibrary, ofPage };
+    return { isByLibrary, ofPage, tag: this.elements.tagOf(element), otherwise: this.elements.withoutHandler(element, this.words.unescape(type)) };
   }
 
   /**
