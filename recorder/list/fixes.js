@@ -6,8 +6,8 @@
 /**
  * The kind of what the race is at, whether the side that finds nothing comes from an act of the user, and whether both sides write. Of an event that looks for
  * handlers: the tag of its target ('' if it is unknown), whether a library registers the handler for the page's own call, and, for a handler of the document or
- * the window that the page itself registers, in what. `isInLibraries`: both sides are in libraries, and no call of the page's own code is known that leads to one.
- * @typedef {{kind: string, isOfUser: boolean, modes?: string, tag?: string, isByLibrary?: boolean, ofPage?: ''|'script'|'callback', isInLibraries?: boolean}} Use
+ * the window that the page itself registers, in what. `isOfOneAct`: one act of a user causes both sides. `isInLibraries`: both sides are in libraries, and no call of the page's own code is known that leads to one.
+ * @typedef {{kind: string, isOfUser: boolean, modes?: string, tag?: string, isByLibrary?: boolean, ofPage?: ''|'script'|'callback', isOfOneAct?: boolean, isInLibraries?: boolean}} Use
  */
 
 const OF_ELEMENT = 'look it up after it was added: `defer` in place of `async`, or DOMContentLoaded';
@@ -27,6 +27,7 @@ const OF_PAGE = {
   script: 'register it in a script in `head`, without `async` or `defer`; it needs no element',
   callback: 'register it where its script runs, not in DOMContentLoaded or later; it needs no element',
 };
+const OF_ONE_ACT = 'usually none: the browser decides the order';
 const OF_LIBRARIES = 'both sides are library code: use the library again only when it is done, or report it there';
 /** What follows if a replay found nothing. */
 const IF_UNSEEN = 'usually none: nothing visible differs. If something else depends on the order';
@@ -56,10 +57,11 @@ const FIXES = {
  * The change for a problem. Called by sides.js.
  * @param {LookKey} look @param {Use} use
  */
-function fixOf(look, { kind, isOfUser, modes = 'ww', tag = '', isByLibrary = false, ofPage = '', isInLibraries = false }) {
+function fixOf(look, { kind, isOfUser, modes = 'ww', tag = '', isByLibrary = false, ofPage = '', isOfOneAct = false, isInLibraries = false }) {
   if (look === 'late' && ofPage) return OF_PAGE[ofPage];
   if (look === 'late') return `${isByLibrary ? IN_TIME_BY_LIBRARY : IN_TIME}, ${CAN_BE_DISABLED.has(tag) ? OR_DISABLE : OR_HIDE}`;
   if (look === 'field' && modes !== 'ww') return OF_READ;
+  if (look === 'acts' && isOfOneAct) return OF_ONE_ACT;
   if (look === 'other' && isInLibraries) return OF_LIBRARIES;
   if (look !== 'undefined') return FIXES[look];
   return isOfUser ? OF_USER : kind === 'element' ? OF_ELEMENT : OF_VARIABLE;

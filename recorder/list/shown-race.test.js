@@ -3,6 +3,7 @@
 
 const assert = require('node:assert');
 const { test } = require('node:test');
+const { FIXES } = require('./fixes.js');
 const { Listing } = require('./listing.js');
 const { Problems } = require('./problems.js');
 const { judgeLines } = require('../test/list-support.js');
@@ -101,4 +102,18 @@ test('the change for a problem of several elements is after the last one', async
   assert.strictEqual(await fixOf([[1, 'click', WRITES], [2, 'click', WRITES]]), `${call}, or hide the elements until then`);
   assert.strictEqual(await fixOf([[3, 'click', WRITES], [2, 'dblclick', WRITES]], 'go'), `${call}, or hide the elements until then`, 'a link cannot be disabled');
   assert.strictEqual(await fixOf([[3, 'click', WRITES], [3, 'dblclick', WRITES]], 'go'), 'make this call right after the element, its libraries before it, or disable the element until then');
+});
+
+test('two sides of one act of a user are not told as two acts', async () => {
+  /** @param {number} act that of the second event */
+  const toldOf = async (act) => {
+    const acts = ['fire 1 1 mousedown', 'run 1 0 1', 'w var 0 x', 'close 1', 'fire 2 1 click', 'run 2 0 2', 'w var 0 x', 'close 2'];
+    const listing = await listingOf(['parse 0 1 plain', 'parse 0 2 inline', 'exec 2', 'on 1', 'on 2', ...acts], {
+      elements: { 1: { tag: 'button', id: 'go' } }, handlers: { 1: { type: 'mousedown', target: 1 }, 2: { type: 'click', target: 1 } },
+      dispatches: { 1: { type: 'mousedown', act: 1000 }, 2: { type: 'click', act } },
+    });
+    return listing.told().map(({ line, others }) => [listing.entryOf(line, others).sentence, detailOf(listing.entryOf(line, others), 'fix'), line.look.seen.split(':')[0]]);
+  };
+  assert.deepStrictEqual(await toldOf(1001), [['One act of a user runs two handlers that reach `x`', 'usually none: the browser decides the order', 'both come from one act of a user']]);
+  assert.deepStrictEqual(await toldOf(2000), [['Two acts of a user reach `x`', FIXES.acts, 'two acts of a user']]);
 });
