@@ -43,7 +43,7 @@ const FIXES = {
   act: 'keep what the act wrote (check for it first), or disable the control until this has run',
   undefined: `${OF_VARIABLE}; for an element: ${OF_ELEMENT}; in code that a user starts: ${OF_USER}`,
   missed: 'register it in a script without `async`, or check first whether the event has already come',
-  replies: 'discard a reply to an older request: number the requests, or abort the older one',
+  replies: 'if each reply replaces what is shown: discard a reply to an older request (number the requests, or abort the older one); if the replies add to one another: none',
   other: `${IF}let one side wait for the other, or check that it is still wanted`,
   flag: 'usually none: the side that comes last sees the flag of the other',
   counter: 'usually none: the count is the same in both orders',

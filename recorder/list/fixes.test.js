@@ -16,12 +16,12 @@ const KEYS = /** @type {Key[]} */ (Object.keys(LOOKS));
 /** Of a line of the list, without its indentation and its label. */
 const WIDTH = 91;
 
-test('every pattern has a usual change, which is one line of the list', () => {
+test('every pattern has a usual change, which is one line of the list, or two', () => {
   assert.deepStrictEqual(Object.keys(FIXES).sort(), [...KEYS].sort());
   for (const key of KEYS) {
     const fix = fixOf(key, { kind: 'variable', isOfUser: false });
     assert.match(fix, /^[a-z].*[^.]$/, key);
-    assert.ok(fix.length <= WIDTH, `${key}: ${fix.length}`);
+    assert.ok(fix.length <= WIDTH * (key === 'replies' ? 2 : 1), `${key}: ${fix.length}`);
   }
 });
 
@@ -78,6 +78,10 @@ test('a late handler that a library registers: the call, and its libraries', () 
     const fix = fixOf('late', { kind: 'handler', isOfUser: false, tag, isByLibrary: true });
     assert.strictEqual(fix, `make this call right after the element, its libraries before it, or ${tag === 'a' ? 'hide' : 'disable'} the element until then`);
   }
+});
+
+test('replies: nothing to change if they add to one another', () => {
+  assert.match(FIXES.replies, /^if each reply replaces what is shown: discard a reply to an older request .*; if the replies add to one another: none$/);
 });
 
 test('both sides in a library: there is nothing to change in it', () => {
