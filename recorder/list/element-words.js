@@ -61,6 +61,16 @@ class ElementWords {
   }
 
   /**
+   * Whether a number is for the document or the window.
+   * @param {string|number} number
+   * @returns {boolean}
+   */
+  isOfPage(number) {
+    const { tag = '', standsFor } = this.names.elements[number] || {};
+    return standsFor ? this.isOfPage(standsFor) : tag === 'HTMLDocument' || tag === 'Window';
+  }
+
+  /**
    * The file that an element has, as a script or an image; '' if it has none.
    * @param {string|number} number
    * @returns {string}

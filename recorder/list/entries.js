@@ -3,11 +3,11 @@
 // the printed report.
 
 const { ASKED } = require('./callbacks.js');
-const { OF_AGAIN, OF_IDLE, fixOfSame } = require('./fixes.js');
+const { OF_AGAIN, OF_IDLE, fixOfNone, fixOfSame, fixOfSeveral } = require('./fixes.js');
 const { alsoByCall, callOf } = require('./registering-calls.js');
 const { Sides, summaryOf } = require('./sides.js');
 const { pathInFolder } = require('./places.js');
-const { APART, HARMLESS, IDLE, SAME } = require('./patterns/table.js');
+const { APART, HARMLESS, IDLE, SAME, UNCHANGED } = require('./patterns/table.js');
 
 /**
  * @typedef {import('./listing.js').Listing} Listing
@@ -94,15 +94,25 @@ class Entries {
   }
 
   /**
-   * A usual change for a problem. Called by listing.js.
-   * @param {Listed} line
+   * A usual change for a problem, and for the others of its entry. Called by listing.js.
+   * @param {Listed} line @param {Listed[]} others
    */
-  fixOf(line) {
+  fixOf(line, others) {
     const part = this.listing.partOf(line);
-    if (part === IDLE) return OF_IDLE;
     const { fix } = this.toldOf(line);
-    if (part === HARMLESS && line.look.comesAgain) return OF_AGAIN;
-    return part === SAME ? fixOfSame(fix) : fix;
+    const own = part === IDLE ? fixOfNone(OF_IDLE, fix) : part === HARMLESS && line.look.comesAgain ? fixOfNone(OF_AGAIN, fix) : part === SAME ? fixOfSame(fix) : fix;
+    return this.isOfSeveral(line, others) ? fixOfSeveral(own, others.map((one) => this.toldOf(one).fix)) : own;
+  }
+
+  /**
+   * Whether the late handlers of an entry are for several elements.
+   * @param {Listed} line @param {Listed[]} others
+   */
+  isOfSeveral(line, others) {
+    if (line.look.look !== 'late') return false;
+    const elementOf = (/** @type {Listed} */ one) => this.toldOf(one).sides[1].what;
+    const isAlso = (/** @type {Listed} */ one) => one.worst === undefined && !!this.alsoOf(one)[1];
+    return [line, ...others.filter((one) => one.look.look === 'late')].some((one) => elementOf(one) !== elementOf(line) || isAlso(one));
   }
 
   /**
@@ -127,13 +137,13 @@ class Entries {
     const ofCall = look.look === 'late' ? others.filter((one) => one.look.look === 'late').map((one) => this.toldOf(one).sides[1]) : [];
     const byCall = ofCall.length ? alsoByCall(sides[1], ofCall) : '';
     return {
-      place, sentence, look: look.name, part: this.listing.partOf(line), name, more: this.more(line, others), details: this.details(line),
+      place, sentence, look: look.name, part: this.listing.partOf(line), name, more: this.more(line, others), details: this.details(line, others),
       sides: sides.map((side, k) => ({ ...side, also: [alsos[k], k === 1 ? byCall : ''].filter(Boolean).join(' ') })),
     };
   }
 
   /**
-   * What takes each side's place in the other races of a problem. Called by loads-run.js.
+   * What takes each side's place in the other races of a problem: what is at the place that is shown. Called by loads-run.js.
    * @param {Listed} line
    */
   alsoOf({ run, first, races, sites: [one, two], look }) {
@@ -142,9 +152,14 @@ class Entries {
     const isTurned = (/** @type {number} */ race) => one !== two && ofRaces[race].sites[0] !== one;
     const leading = sides.leading(report.races[first], look.look);
     return [leading, 1 - leading].map((k) => {
-      const own = sides.actorOf(report.races[first], k);
+      const [own, where] = [sides.actorOf(report.races[first], k), sides.whereOf(report.races[first], k)];
       const side = isTurned(first) ? 1 - k : k;
-      const texts = new Set(races.slice(0, MOST_RACES).map((race) => sides.actorOf(report.races[race], isTurned(race) ? 1 - side : side)));
+      /** @type {Set<string>} */
+      const texts = new Set();
+      for (const race of races.slice(0, MOST_RACES)) {
+        const at = isTurned(race) ? 1 - side : side;
+        if (sides.whereOf(report.races[race], at) === where) texts.add(sides.actorOf(report.races[race], at));
+      }
       texts.delete(own);
       return also(own, [...texts]);
     });
@@ -160,15 +175,16 @@ class Entries {
 
   /**
    * What the list says of a problem besides its sides.
-   * @param {Listed} line @returns {Entry['details']}
+   * @param {Listed} line @param {Listed[]} others @returns {Entry['details']}
    */
-  details(line) {
+  details(line, others) {
     const { look } = line;
+    const here = others.some((one) => one.look.look === look.look && !one.look.isUnchanged) ? look.here.replace(UNCHANGED, '') : look.here;
     const cause = this.causeOf(line);
     const replay = this.listing.verdictOf(line);
     const seen = this.listing.seenInWords(line);
     /** @type {Entry['details']} */
-    const all = [['cause', cause ? summaryOf(cause) : ''], ['recorded', look.here], ['replayed', replay ? replay.sentence || replay.words : this.notReplayed(line)], ['runs', seen], ['fix', this.fixOf(line)]];
+    const all = [['cause', cause ? summaryOf(cause) : ''], ['recorded', here], ['replayed', replay ? replay.sentence || replay.words : this.notReplayed(line)], ['runs', seen], ['fix', this.fixOf(line, others)]];
     return all.filter(([, text]) => text);
   }
 

@@ -5,9 +5,9 @@
 /** @typedef {import('./patterns/table.js').LookKey} LookKey */
 /**
  * The kind of what the race is at, whether the side that finds nothing comes from an act of the user, and whether both sides write. Of an event that looks for
- * handlers: the tag of its target ('' if it is unknown), and whether a library registers the handler for the page's own call. `isInLibraries`: both sides are
- * in libraries, and no call of the page's own code is known that leads to one of them.
- * @typedef {{kind: string, isOfUser: boolean, modes?: string, tag?: string, isByLibrary?: boolean, isInLibraries?: boolean}} Use
+ * handlers: the tag of its target ('' if it is unknown), whether a library registers the handler for the page's own call, and, for a handler of the document or
+ * the window that the page itself registers, in what. `isOfOneAct`: one act of a user causes both sides. `isInLibraries`: both sides are in libraries, and no call of the page's own code is known that leads to one.
+ * @typedef {{kind: string, isOfUser: boolean, modes?: string, tag?: string, isByLibrary?: boolean, ofPage?: ''|'script'|'callback', isOfOneAct?: boolean, isInLibraries?: boolean}} Use
  */
 
 const OF_ELEMENT = 'look it up after it was added: `defer` in place of `async`, or DOMContentLoaded';
@@ -22,6 +22,12 @@ const IN_TIME = 'register it in a script right after the element';
 const IN_TIME_BY_LIBRARY = 'make this call right after the element, its libraries before it';
 const OR_DISABLE = 'or disable the element until then';
 const OR_HIDE = 'or hide the element until then';
+/** A late handler of the document or the window. */
+const OF_PAGE = {
+  script: 'register it in a script in `head`, without `async` or `defer`; it needs no element',
+  callback: 'register it where its script runs, not in DOMContentLoaded or later; it needs no element',
+};
+const OF_ONE_ACT = 'usually none: the browser decides the order';
 const OF_LIBRARIES = 'both sides are library code: use the library again only when it is done, or report it there';
 /** What follows if a replay found nothing. */
 const IF_UNSEEN = 'usually none: nothing visible differs. If something else depends on the order';
@@ -37,7 +43,7 @@ const FIXES = {
   act: 'keep what the act wrote (check for it first), or disable the control until this has run',
   undefined: `${OF_VARIABLE}; for an element: ${OF_ELEMENT}; in code that a user starts: ${OF_USER}`,
   missed: 'register it in a script without `async`, or check first whether the event has already come',
-  replies: 'discard a reply to an older request: number the requests, or abort the older one',
+  replies: 'if each reply replaces what is shown: discard a reply to an older request (number the requests, or abort the older one); if the replies add to one another: none',
   other: `${IF}let one side wait for the other, or check that it is still wanted`,
   flag: 'usually none: the side that comes last sees the flag of the other',
   counter: 'usually none: the count is the same in both orders',
@@ -51,9 +57,11 @@ const FIXES = {
  * The change for a problem. Called by sides.js.
  * @param {LookKey} look @param {Use} use
  */
-function fixOf(look, { kind, isOfUser, modes = 'ww', tag = '', isByLibrary = false, isInLibraries = false }) {
+function fixOf(look, { kind, isOfUser, modes = 'ww', tag = '', isByLibrary = false, ofPage = '', isOfOneAct = false, isInLibraries = false }) {
+  if (look === 'late' && ofPage) return OF_PAGE[ofPage];
   if (look === 'late') return `${isByLibrary ? IN_TIME_BY_LIBRARY : IN_TIME}, ${CAN_BE_DISABLED.has(tag) ? OR_DISABLE : OR_HIDE}`;
   if (look === 'field' && modes !== 'ww') return OF_READ;
+  if (look === 'acts' && isOfOneAct) return OF_ONE_ACT;
   if (look === 'other' && isInLibraries) return OF_LIBRARIES;
   if (look !== 'undefined') return FIXES[look];
   return isOfUser ? OF_USER : kind === 'element' ? OF_ELEMENT : OF_VARIABLE;
@@ -65,4 +73,19 @@ function fixOf(look, { kind, isOfUser, modes = 'ww', tag = '', isByLibrary = fal
  */
 const fixOfSame = (fix) => (fix.startsWith('usually none') ? fix : `${IF_UNSEEN}: ${fix.replace(IF, '')}`);
 
-module.exports = { FIXES, OF_AGAIN, OF_IDLE, fixOf, fixOfSame };
+/**
+ * The change for an entry of several elements: what is right after the first one breaks the others. Called by entries.js.
+ * @param {string} fix that of one element @param {string[]} others those of its others
+ */
+function fixOfSeveral(fix, others) {
+  const verb = [fix, ...others].some((one) => one.endsWith(OR_HIDE)) ? 'hide' : 'disable';
+  return fix.replace(/after the element\b/, 'after the last element that it needs').replace(/or (?:disable|hide) the element until/, `or ${verb} the elements until`);
+}
+
+/**
+ * The change for a late handler from which nothing is lost. Called by entries.js.
+ * @param {string} none it begins with "usually none" @param {string} fix that of its pattern
+ */
+const fixOfNone = (none, fix) => (Object.values(OF_PAGE).includes(fix) ? none.replace('after the element', 'where its script runs') : none);
+
+module.exports = { FIXES, OF_AGAIN, OF_IDLE, OF_PAGE, fixOf, fixOfNone, fixOfSame, fixOfSeveral };

@@ -3,7 +3,7 @@
 
 const assert = require('node:assert');
 const { test } = require('node:test');
-const { FIXES, OF_AGAIN, OF_IDLE, fixOf, fixOfSame } = require('./fixes.js');
+const { FIXES, OF_AGAIN, OF_IDLE, OF_PAGE, fixOf, fixOfSame } = require('./fixes.js');
 const { Listing } = require('./listing.js');
 const { APART, HARMLESS, LOOKS, SAME, isAgain, lookOf } = require('./patterns/table.js');
 const { Problems } = require('./problems.js');
@@ -16,12 +16,12 @@ const KEYS = /** @type {Key[]} */ (Object.keys(LOOKS));
 /** Of a line of the list, without its indentation and its label. */
 const WIDTH = 91;
 
-test('every pattern has a usual change, which is one line of the list', () => {
+test('every pattern has a usual change, which is one line of the list, or two', () => {
   assert.deepStrictEqual(Object.keys(FIXES).sort(), [...KEYS].sort());
   for (const key of KEYS) {
     const fix = fixOf(key, { kind: 'variable', isOfUser: false });
     assert.match(fix, /^[a-z].*[^.]$/, key);
-    assert.ok(fix.length <= WIDTH, `${key}: ${fix.length}`);
+    assert.ok(fix.length <= WIDTH * (key === 'replies' ? 2 : 1), `${key}: ${fix.length}`);
   }
 });
 
@@ -42,10 +42,11 @@ test('a use before the definition: of an element, of a variable, by a user', () 
 /**
  * The changes for a late handler of an element's event, of which a script registers a handler that does something.
  * @param {string} tag @param {string} type @param {string[]} handler the lines of its run
+ * @param {{target?: number, from?: string}} options the target of the handler, and the action that registers it
  */
-async function fixesOfLate(tag, type, handler) {
-  const { text, report } = await judgeLines(['parse 0 1 plain', 'parse 0 2 async', 'exec 2', 'on 1', `w slot 1 ${type}/1`, `fire 1 1 ${type}`, `r slot 1 ${type}/1`, 'run 1 0 1', ...handler, 'close 1']);
-  const facts = { files: [{ address: 'http://a/page.html' }], elements: { 1: { tag, id: 'go' } }, documents: {}, handlers: { 1: { type, target: 1 } }, timeouts: {}, intervals: {}, requests: {}, dispatches: { 1: { type, act: 1000 } }, objects: {}, places: {} };
+async function fixesOfLate(tag, type, handler, { target = 1, from = 'exec 2' } = {}) {
+  const { text, report } = await judgeLines(['parse 0 1 plain', 'parse 0 2 async', 'exec 2', ...from === 'exec 2' ? [] : ['set 1 0', from], 'on 1', `w slot ${target} ${type}/1`, `fire 1 1 ${type}`, `r slot ${target} ${type}/1`, 'run 1 0 1', ...handler, 'close 1']);
+  const facts = { files: [{ address: 'http://a/page.html' }], elements: { 1: { tag, id: 'go' }, 3: { tag: 'HTMLDocument' }, 4: { tag: 'Window' }, 5: { standsFor: 3 } }, documents: {}, handlers: { 1: { type, target } }, timeouts: {}, intervals: {}, requests: {}, dispatches: { 1: { type, act: 1000 } }, objects: {}, places: {} };
   const listing = new Listing([new Problems(text, facts, report)], null);
   return listing.told().map(({ line }) => listing.fixOf(line));
 }
@@ -60,11 +61,27 @@ test('a late handler: of what can be disabled, of what cannot, of an event that 
   assert.deepStrictEqual(await fixesOfLate('body', 'click', writes), [FIXES.late], 'a page does not hide itself');
 });
 
+test('a late handler of the document or the window: it needs no element', async () => {
+  const writes = ['w var 0 x'];
+  for (const target of [3, 4, 5]) {
+    assert.deepStrictEqual(await fixesOfLate('button', 'click', writes, { target }), [OF_PAGE.script]);
+    assert.deepStrictEqual(await fixesOfLate('button', 'click', writes, { target, from: 'timer 1' }), [OF_PAGE.callback]);
+    assert.deepStrictEqual(await fixesOfLate('button', 'mouseover', writes, { target }), [OF_AGAIN.replace('after the element', 'where its script runs')]);
+  }
+  assert.deepStrictEqual(await fixesOfLate('button', 'click', writes, { from: 'timer 1' }), [FIXES.late]);
+  for (const fix of Object.values(OF_PAGE)) assert.ok(fix.length <= WIDTH, String(fix.length));
+  assert.match(fixOf('late', { kind: 'handler', isOfUser: false, isByLibrary: true }), /^make this call/);
+});
+
 test('a late handler that a library registers: the call, and its libraries', () => {
   for (const tag of ['a', 'button']) {
     const fix = fixOf('late', { kind: 'handler', isOfUser: false, tag, isByLibrary: true });
     assert.strictEqual(fix, `make this call right after the element, its libraries before it, or ${tag === 'a' ? 'hide' : 'disable'} the element until then`);
   }
+});
+
+test('replies: nothing to change if they add to one another', () => {
+  assert.match(FIXES.replies, /^if each reply replaces what is shown: discard a reply to an older request .*; if the replies add to one another: none$/);
 });
 
 test('both sides in a library: there is nothing to change in it', () => {

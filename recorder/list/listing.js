@@ -6,6 +6,7 @@ const { Entries } = require('./entries.js');
 const { APART } = require('./patterns/table.js');
 const { hasLine } = require('./problems.js');
 const { partOf, rankOf, sortByRank } = require('./rank.js');
+const { shownByChange } = require('./registering-calls.js');
 
 /**
  * @typedef {import('./problems.js').Problem} Problem
@@ -186,7 +187,7 @@ class Listing {
       if (known) known.others.push(line);
       else lines.set(key, { line, others: [] });
     }
-    return [...lines.values()];
+    return [...lines.values()].map((one) => shownByChange(one, (each) => JSON.stringify([each.look.look, this.partOf(each), this.rankOf(each)])));
   }
 
   /**
@@ -282,7 +283,7 @@ class Listing {
    * @param {Listed} line
    */
   fixOf(line) {
-    return this.entries.fixOf(line);
+    return this.entries.fixOf(line, []);
   }
 }
 

@@ -10,7 +10,7 @@ const { Accesses, isNothing } = require('./patterns/accesses.js');
 const { IdleHandlers } = require('./patterns/idle.js');
 const { UserActs } = require('./patterns/user-acts.js');
 const { Remaining } = require('./patterns/remaining.js');
-const { detailOf, isAgain, lookOf } = require('./patterns/table.js');
+const { UNCHANGED, detailOf, isAgain, lookOf } = require('./patterns/table.js');
 const { isTypedOver } = require('./patterns/typed.js');
 
 /**
@@ -106,7 +106,7 @@ class Looks {
     const [, target, slot] = race.location.split(' ');
     const [type, handler = ''] = slot.split('/');
     const isUnchanged = k === 1 && this.idle.isUnchanged(number, handler);
-    const here = k === 0 ? 'here it came before the handler was set' : `here the handler was there${isUnchanged ? ', and changed nothing that is recorded' : ''}`;
+    const here = k === 0 ? 'here it came before the handler was set' : `here the handler was there${isUnchanged ? UNCHANGED : ''}`;
     const isIdle = isUnchanged && (look === 'missed' || this.idle.isOfLittle(number, target, type));
     const facts = { isUnchanged, isIdle, comesAgain: look === 'late' && isAgain(type) };
     return lookOf(look, `a handler that comes late: ${this.words.action(number)} may find none; ${here}`, detailOf(look, 'slot', type), facts);

@@ -5,7 +5,7 @@
 const { isOfTree } = require('../races/spelled-locations.js');
 const { LastingNames } = require('./lasting.js');
 const { Looks } = require('./looks.js');
-const { isHarm, isAlwaysTold, isWorse } = require('./patterns/table.js');
+const { isHarm, isAlwaysTold, isRather, isWorse } = require('./patterns/table.js');
 const { ProblemWords, listed } = require('./problem-words.js');
 
 /**
@@ -22,6 +22,9 @@ const { ProblemWords, listed } = require('./problem-words.js');
 
 /** Locations that many writes change in parts. */
 const IN_PARTS = / (?:\([a-z]+\)|content|style|class|length)$/;
+
+/** So many races of a problem are looked through for the places that most of them have. */
+const MOST_RACES = 500;
 
 /** Made by view.js for each analyzed trace. */
 class Problems {
@@ -69,7 +72,7 @@ class Problems {
       let one = problems.get(problem);
       if (!one) problems.set(problem, one = { name: problem, races: [], groups: [], look, sites });
       one.races.push(k);
-      if (isWorse(look, one.look)) one.look = look;
+      if (isRather(look, one.look)) one.look = look;
     });
     this.leads.forEach((race, k) => problems.get(this.ofRaces[race].problem)?.groups.push(k));
     const list = [...problems.values()].map((one) => this.complete(one));
@@ -119,11 +122,21 @@ class Problems {
       const lead = ofGroup.get(this.report.races[race].group);
       return lead !== undefined && this.isOnePair(lead, race);
     };
-    const isLike = (/** @type {number} */ race) => this.ofRaces[race].look.look === problem.look.look;
-    const first = leads.find(isLike) ?? problem.races.find((race) => isLike(race) && isBeside(race)) ?? problem.races.find(isLike) ?? leads[0] ?? problem.races[0];
+    const isLike = (/** @type {number} */ race) => isAlike(this.ofRaces[race].look, problem.look);
+    const first = mostUsual(leads.filter(isLike), problem.races, (race) => this.placesOf(race)) ?? problem.races.find((race) => isLike(race) && isBeside(race)) ?? problem.races.find(isLike) ?? leads[0] ?? problem.races[0];
     const group = this.report.races[first].group - 1;
     if (problem.groups.includes(group)) this.leads[group] = first;
-    return { ...problem, first, words: this.inWords.of(problem, first, (race) => this.ofRaces[race].sites[0]) };
+    const look = isLike(first) ? this.ofRaces[first].look : problem.look;
+    return { ...problem, look, first, words: this.inWords.of(problem, first, (race) => this.ofRaces[race].sites[0]) };
+  }
+
+  /**
+   * The two places to look at for a race, whichever comes first.
+   * @param {number} race
+   */
+  placesOf(race) {
+    const { lines, actions } = this.report.races[race];
+    return lines.map((line, k) => String(this.words.placeOfAccess(line, actions[k]))).sort().join(' ');
   }
 
   /**
@@ -197,6 +210,26 @@ class Problems {
   lines() {
     return this.list.filter(hasLine);
   }
+}
+
+/**
+ * Whether two patterns differ at most in the order that the recording had.
+ * @param {Look} one @param {Look} other
+ */
+const isAlike = (one, other) => one.look === other.look && one.detail === other.detail && one.isUnchanged === other.isUnchanged && one.isIdle === other.isIdle;
+
+/**
+ * The first of some races that has the places which most races have: calls of a library come from several places of the page's own code.
+ * @param {number[]} some @param {number[]} races @param {(race: number) => string} placesOf
+ * @returns {number|undefined}
+ */
+function mostUsual(some, races, placesOf) {
+  if (some.length < 2) return some[0];
+  /** @type {Map<string, number>} */
+  const counts = new Map();
+  for (const key of races.slice(0, MOST_RACES).map(placesOf)) counts.set(key, (counts.get(key) || 0) + 1);
+  const sizes = some.slice(0, MOST_RACES).map((race) => counts.get(placesOf(race)) || 0);
+  return some[sizes.indexOf(Math.max(...sizes))];
 }
 
 /**

@@ -61,4 +61,15 @@ function alsoByCall(own, others) {
   return all.length ? `(also ${all.slice(0, MOST_NAMED).join(', ')}${all.length > MOST_NAMED ? ', ..' : ''}: ${BY_CALL})` : '';
 }
 
-module.exports = { alsoByCall, callOf, wayOf };
+/**
+ * A line of handlers that one call registers: it is shown by one that changed something, if that is of the same rank. Called by listing.js.
+ * @param {import('./listing.js').Line} told
+ * @param {(one: import('./listing.js').Listed) => string} rankOf
+ * @returns {import('./listing.js').Line}
+ */
+function shownByChange({ line, others }, rankOf) {
+  const other = line.look.isUnchanged && others.find((one) => !one.look.isUnchanged && rankOf(one) === rankOf(line));
+  return other ? { line: other, others: [line, ...others.filter((one) => one !== other)] } : { line, others };
+}
+
+module.exports = { alsoByCall, callOf, shownByChange, wayOf };

@@ -52,7 +52,8 @@ test('all that a library registers for one call is one entry, with what the user
   assert.strictEqual(entry.sentence, 'Until its handler is registered, a click at a "Start" only follows the link');
   assert.deepStrictEqual(entry.sides.map(({ place, also }) => [place, also]), [['app.js:1:12 (via jquery-ui.js:1:1)', ''], ['page.html:1:1', '(also mouseover, mouseout, click at button "Save": registered by the same call)']]);
   assert.match(entry.more, /^and 3 more races in 4 problems$/);
-  assert.strictEqual(listing.fixOf(listing.lines[0]), 'make this call right after the element, its libraries before it, or hide the element until then');
+  assert.strictEqual(listing.fixOf(listing.lines[0]), 'make this call right after the element, its libraries before it, or hide the element until then', 'of one problem');
+  assert.deepStrictEqual(entry.details.find(([label]) => label === 'fix'), ['fix', 'make this call right after the last element that it needs, its libraries before it, or hide the elements until then']);
   assert.strictEqual(linesOf(listing).filter((line) => /for races\.known/.test(line)).length, 1);
 });
 

@@ -33,7 +33,7 @@ const SAYS = {
   ticks: 'The first ticks of two intervals of one delay come in order.',
   same: 'Both sides write the same value.',
   scratch: 'Each action writes all of a value, and none reads that of another.',
-  acts: 'Two acts of a user touch one location.',
+  acts: 'Two acts of a user, or two handlers of one act, touch one location.',
 };
 
 /** @param {LookKey} look */

@@ -8,8 +8,8 @@
 /**
  * What a sentence is made of: the two sides of a race in the order of the list, what acts in each as the subject of a sentence, the thing that they touch
  * and the field that a user fills in, in words. `isReplaced`: each side writes all of the thing, and keeps nothing of what was there. `otherwise`: what the
- * browser does for an event without a handler.
- * @typedef {{sides: [Side, Side], subjects: [string, string], thing: string, field: string, modes: string, kind: string, isReplaced: boolean, otherwise?: string}} Facts
+ * browser does for an event without a handler. `ofOneAct`: both sides come from one act of a user, as handlers or in another way.
+ * @typedef {{sides: [Side, Side], subjects: [string, string], thing: string, field: string, modes: string, kind: string, isReplaced: boolean, otherwise?: string, ofOneAct?: ''|'handlers'|'others'}} Facts
  */
 
 /** @param {string} text */
@@ -48,7 +48,7 @@ const SENTENCES = {
   ticks: ({ thing }) => `two intervals of one delay tick in the order in which they were set, and reach ${thing}`,
   same: ({ thing }) => `${thing} gets the same value from both sides`,
   scratch: ({ thing }) => `each callback that uses ${thing} writes all of it first`,
-  acts: ({ thing }) => `two acts of a user reach ${thing}`,
+  acts: ({ thing, ofOneAct }) => (ofOneAct === 'handlers' ? `one act of a user runs two handlers that reach ${thing}` : ofOneAct ? `one act of a user reaches ${thing} twice` : `two acts of a user reach ${thing}`),
 };
 
 /**

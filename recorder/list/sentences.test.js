@@ -37,6 +37,11 @@ test('an element is not in the page yet, and a variable is not defined yet', () 
   assert.strictEqual(sentence('replies', { sides: [one, other] }), 'An older reply may overwrite a newer one');
 });
 
+test('one act of a user, or two', () => {
+  assert.deepStrictEqual([sentence('acts'), sentence('acts', { ofOneAct: 'handlers' }), sentence('acts', { ofOneAct: 'others' })],
+    ['Two acts of a user reach `x`', 'One act of a user runs two handlers that reach `x`', 'One act of a user reaches `x` twice']);
+});
+
 test('every pattern has a sentence that starts with a capital or a name, and has no end', () => {
   for (const key of /** @type {Key[]} */ (Object.keys(LOOKS))) assert.match(sentence(key), /^[A-Z`].*[^.]$/, key);
 });

@@ -143,9 +143,25 @@ class Sides {
    * @param {Race} race
    * @param {number} k
    */
-  actorOf({ location, modes, actions }, k) {
+  actorOf(race, k) {
+    return this.targetOf(race, k) || this.callbacks.of(race.actions[k]);
+  }
+
+  /**
+   * The target of a side that is an event which looks for handlers; '' if it is none.
+   * @param {Race} race @param {number} k
+   */
+  targetOf({ location, modes, actions }, k) {
     const event = location.startsWith('slot ') && modes[k] === 'r' ? this.eventInWords(actions[k]) : null;
-    return event ? event.target : this.callbacks.of(actions[k]);
+    return event ? event.target : '';
+  }
+
+  /**
+   * The place of a side; '' for an event: its targets have places of their own. Called by entries.js.
+   * @param {Race} race @param {number} k
+   */
+  whereOf(race, k) {
+    return this.targetOf(race, k) ? '' : this.place(this.words.placeOfAccess(race.lines[k], race.actions[k]));
   }
 
   /**
@@ -206,21 +222,26 @@ class Sides {
     const thing = kind === 'handler' ? this.thing(race.location) : marked(this.thing(race.location));
     const subjects = this.callbacks.subjects(race.actions[first], race.actions[1 - first]);
     const event = this.lookUpOf(race);
-    const facts = { sides, subjects, thing, field: this.field(race.location), modes: race.modes, kind, isReplaced: this.problems.isReplaced(race), otherwise: event.otherwise };
-    return { sentence: sentenceOf(look, facts), place: at ? this.place(at, false) : this.page(), sides, call: callOf(this.words, race), fix: fixOf(look, { kind, isOfUser: !!sides[0].act, modes: race.modes, isInLibraries: this.isInLibraries(race), ...event }) };
+    const ofOneAct = this.problems.userActs.ofOneAct(race.actions);
+    const facts = { sides, subjects, thing, ofOneAct, field: this.field(race.location), modes: race.modes, kind, isReplaced: this.problems.isReplaced(race), otherwise: event.otherwise };
+    return { sentence: sentenceOf(look, facts), place: at ? this.place(at, false) : this.page(), sides, call: callOf(this.words, race), fix: fixOf(look, { kind, isOfUser: !!sides[0].act, modes: race.modes, isOfOneAct: !!ofOneAct, isInLibraries: this.isInLibraries(race), ...event }) };
   }
 
   /**
-   * Of an event that looks for handlers: the tag of its target, what the browser does without a handler, and whether a library registers it.
+   * Of an event that looks for handlers: the tag of its target, what the browser does without a handler, whether a library registers it, and in what the page
+   * itself registers one of the document or the window.
    * @param {Race} race
+   * @returns {{isByLibrary?: boolean, ofPage?: ''|'script'|'callback', tag?: string, otherwise?: string}}
    */
   lookUpOf({ location, modes, lines, actions }) {
     const reader = modes.indexOf('r');
     if (!location.startsWith('slot ') || reader < 0) return {};
     const isByLibrary = !!wayOf(this.words, lines[1 - reader], location, this.words.placeOfAccess(lines[1 - reader], actions[1 - reader]));
+    const from = this.words.actions.list[this.firstOf(actions[1 - reader])].words[0] === 'exec' ? 'script' : 'callback';
+    const ofPage = !isByLibrary && this.elements.isOfPage(location.split(' ')[1]) ? from : '';
     const { words: [word, , element, type] } = this.words.actions.list[this.firstOf(actions[reader])];
-    if (!EVENTS.has(word) || word === 'wfire') return { isByLibrary };
-    return { isByLibrary, tag: this.elements.tagOf(element), otherwise: this.elements.withoutHandler(element, this.words.unescape(type)) };
+    if (!EVENTS.has(word) || word === 'wfire') return { isByLibrary, ofPage };
+    return { isByLibrary, ofPage, tag: this.elements.tagOf(element), otherwise: this.elements.withoutHandler(element, this.words.unescape(type)) };
   }
 
   /**

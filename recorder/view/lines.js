@@ -55,7 +55,8 @@ function arranged(model, listing) {
   const { problems, ...known } = countsOf(listed);
   const { groups, races } = model.totals;
   const byName = new Map(listing.problems.map((one) => [one.name, one]));
-  const detailed = model.problems.map((one) => ({ ...one, details: detailsOf(listing, byName.get(one.name), one) }));
+  const othersOf = new Map(listing.told().map(({ line, others }) => [line.name, others]));
+  const detailed = model.problems.map((one) => ({ ...one, details: detailsOf(listing, byName.get(one.name), othersOf.get(one.name) || [], one) }));
   return { ...model, problems: detailed, listed, totals: { problems: problems + notShown, ...known, groups, races } };
 }
 
@@ -63,11 +64,12 @@ function arranged(model, listing) {
  * What is known of a problem besides its sides, after replays. Places stay as the model has them: the list has those of files as paths.
  * @param {Listing} listing
  * @param {import('../list/listing.js').Listed|undefined} problem
+ * @param {import('../list/listing.js').Listed[]} others those of its line
  * @param {ShownProblem} shown
  */
-function detailsOf(listing, problem, { details }) {
+function detailsOf(listing, problem, others, { details }) {
   const isOfPlace = (/** @type {string[]} */ [label]) => label === 'cause';
-  return problem ? [...details.filter(isOfPlace), ...listing.entries.details(problem).filter((one) => !isOfPlace(one))] : details;
+  return problem ? [...details.filter(isOfPlace), ...listing.entries.details(problem, others).filter((one) => !isOfPlace(one))] : details;
 }
 
 module.exports = { arranged, countsOf, linesOf, toldOf };

@@ -39,6 +39,9 @@ const LOOKS = {
  */
 /** @typedef {''|'choosing'|'element'|'read'} Detail an event by which a user chooses something is lost; an element is looked up; a field is read, not written again */
 
+/** What is said of a handler that ran and changed nothing. */
+const UNCHANGED = ', and changed nothing that is recorded';
+
 /** Events by which a user chooses, changes or submits something. Others, as of the mouse that moves, of a key or of a scroll, come again soon. */
 const CHOOSING = new Set(['click', 'dblclick', 'change', 'input', 'submit']);
 /** Events that come again by themselves, with the next move of a pointer over an element. */
@@ -100,6 +103,12 @@ function severityOf({ look, rank, detail, isUnchanged, isIdle, comesAgain }) {
 const isWorse = (one, other) => severityOf(one) < severityOf(other);
 
 /**
+ * Whether a problem has the first pattern rather: it is worse, or its handler changed something, which the words "changed nothing" deny. Called by list/problems.js.
+ * @param {Look} one @param {Look} other
+ */
+const isRather = (one, other) => isWorse(one, other) || (one.look === other.look && !one.isUnchanged && other.isUnchanged && !isWorse(other, one));
+
+/**
  * Called by list/problems.js.
  * @param {{part: string}} look
  */
@@ -112,4 +121,4 @@ const isHarm = ({ part }) => part === LOSES || part === THROWS;
  */
 const isAlwaysTold = ({ look }) => look === 'field' || look === 'act' || look === 'undefined' || look === 'replies';
 
-module.exports = { LOOKS, RANKS, APART, HARMLESS, IDLE, SAME, isAgain, lookOf, detailOf, isWorse, isHarm, isAlwaysTold };
+module.exports = { LOOKS, RANKS, APART, HARMLESS, IDLE, SAME, UNCHANGED, isAgain, lookOf, detailOf, isRather, isWorse, isHarm, isAlwaysTold };

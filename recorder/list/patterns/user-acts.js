@@ -68,6 +68,17 @@ class UserActs {
   }
 
   /**
+   * Whether two actions come from one act of a user: as runs of handlers, or in another way. Called by list/sides.js.
+   * @param {number[]} numbers of the actions
+   * @returns {''|'handlers'|'others'}
+   */
+  ofOneAct(numbers) {
+    const [one, other] = numbers.map((number) => this.actOf(number));
+    if (!one || one !== other) return '';
+    return numbers.every((number) => this.actions[this.actions[number].first].words[0] === 'run') ? 'handlers' : 'others';
+  }
+
+  /**
    * The request whose reply an action is in. Called by list/looks.js and list/sides.js.
    * @param {number} number of the action
    * @returns {string|null} the request's number, as the trace has it
