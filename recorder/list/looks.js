@@ -10,6 +10,7 @@ const { Accesses, isNothing } = require('./patterns/accesses.js');
 const { IdleHandlers } = require('./patterns/idle.js');
 const { UserActs } = require('./patterns/user-acts.js');
 const { Remaining } = require('./patterns/remaining.js');
+const { isRemoval } = require('./patterns/removals.js');
 const { UNCHANGED, detailOf, isAgain, lookOf } = require('./patterns/table.js');
 const { isTypedOver } = require('./patterns/typed.js');
 
@@ -95,12 +96,12 @@ class Looks {
   }
 
   /**
-   * The pattern of a race between an event and the registration of its handler.
+   * The pattern of a race between an event and the registration of its handler; null if the handler is removed.
    * @param {Race} race @param {number[]} acts
    */
   handler(race, acts) {
     const k = race.modes.indexOf('r');
-    if (k < 0) return null;
+    if (k < 0 || isRemoval(this.accesses, race.location, race.lines[1 - k])) return null;
     const number = race.actions[k];
     const look = acts[k] ? 'late' : 'missed';
     const [, target, slot] = race.location.split(' ');

@@ -25,6 +25,7 @@ const eventOrActor = ({ event, actor }) => (event ? withArticle(event) : actor);
  * @param {Facts} facts
  */
 function neutral({ sides, subjects: [one, other], thing, modes, kind, isReplaced }) {
+  if (kind === 'handler' && modes !== 'ww') return `${other} may remove the handler before or after ${eventOrActor(sides[0])}`;
   if (kind === 'handler') return `${other} may register or remove a handler of ${thing} before or after ${one} does`;
   if (modes === 'ww' && isReplaced) return `${thing} keeps what is written last, by ${other} or by ${one}`;
   const change = kind === 'element' ? 'add or change' : 'write';

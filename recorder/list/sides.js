@@ -8,6 +8,7 @@ const { Callbacks } = require('./callbacks.js');
 const { ElementWords } = require('./element-words.js');
 const { fixOf } = require('./fixes.js');
 const { callOf, wayOf } = require('./registering-calls.js');
+const { isRemoval } = require('./patterns/removals.js');
 const { sentenceOf } = require('./sentences.js');
 
 /**
@@ -117,7 +118,7 @@ class Sides {
     const isEvent = kind === 'handler' && modes[k] === 'r';
     const at = this.words.placeOfAccess(lines[k], number);
     const event = isEvent ? this.eventInWords(number) : null;
-    const verb = isEvent ? event?.verb || 'event' : this.verb(kind, modes[k], lines[k]);
+    const verb = isEvent ? event?.verb || 'event' : this.verb(kind, modes[k], lines[k], location);
     const what = isEvent ? event?.target || this.callbacks.of(number) : this.thing(location);
     return {
       verb, what, at, place: this.placeAndWay(at, lines[k], location), actor: isEvent && event ? '' : this.callbacks.of(number), event: event?.words || '',
@@ -189,10 +190,10 @@ class Sides {
 
   /**
    * What an access does, in a word.
-   * @param {string} kind @param {string} mode @param {number} line
+   * @param {string} kind @param {string} mode @param {number} line @param {string} location
    */
-  verb(kind, mode, line) {
-    if (kind === 'handler') return 'registers';
+  verb(kind, mode, line, location) {
+    if (kind === 'handler') return isRemoval(this.problems.accesses, location, line) ? 'removes' : 'registers';
     if (kind === 'element') return mode === 'w' ? 'adds or changes' : 'looks up';
     if (mode === 'r' && this.problems.names.kept?.[line]) return 'writes again';
     return mode === 'w' ? 'writes' : 'reads';
