@@ -36,6 +36,8 @@ const { arranged } = require('./view/lines.js');
 
 const PREFIXES = /^(turned: differs|could not be turned|turned): /;
 
+const ONLY_OTHERS = 'no (only other problems were replayed)';
+
 /** How many races are replayed if nobody says so. */
 const MOST_IF_REQUESTED = 20;
 /** How many races go on at once for each run that does: some wait for others, with which they share runs. */
@@ -107,16 +109,30 @@ class ReplayCommand {
   }
 
   /** The races that are requested: by their numbers, else the first of each line of the list. By itself, known ones are not replayed. */
-  numbers() {
+  wanted() {
     const { races, isReplayed } = this.options;
-    const { most = isReplayed ? MOST_IF_REQUESTED : MOST_BY_ITSELF } = { most: this.options.most ?? undefined };
     const told = this.listing.told().map(({ line }) => line);
     const numbers = races.length ? races : [...told, ...isReplayed ? this.listing.knownLines() : []].map(raceOf);
     /** @param {number} number */
     const isThere = (number) => !!this.report.races[number - 1];
     const wrong = numbers.find((number) => !isThere(number));
     if (wrong !== undefined) this.complain(`there is no race ${wrong}`);
-    return [...new Set(numbers)].filter(isThere).slice(0, most);
+    return [...new Set(numbers)].filter(isThere);
+  }
+
+  /** How many of them are replayed at most. */
+  most() {
+    return this.options.most ?? (this.options.isReplayed ? MOST_IF_REQUESTED : MOST_BY_ITSELF);
+  }
+
+  /** The races that are replayed. */
+  numbers() {
+    return this.wanted().slice(0, this.most());
+  }
+
+  /** What the list says of a problem without a verdict: `--most` leaves it out only if there are more races. */
+  noteLeftOut() {
+    if (this.wanted().length <= this.most()) this.listing.entries.notReplayedWords = ONLY_OTHERS;
   }
 
   /** Whether the page is allowed to load again and again. Requests that might change something on a server need `--yes`. */
@@ -144,6 +160,7 @@ class ReplayCommand {
     }
     const replay = new Replay(this.recorder, this.options, this.traceFile, this.report);
     let status = STATUS.ok;
+    this.noteLeftOut();
     const limit = this.limit(replay);
     try {
       await stoppable(() => replay.interrupt(), () => this.replayEach(replay));
@@ -209,7 +226,7 @@ class ReplayCommand {
     this.results.sort(orderOfResults);
     const isInList = this.options.name === 'er_page' && !this.options.isJson; // the list comes next, and has each result
     this.lines().slice(isInList ? -1 : 0).forEach((line) => this.print(line));
-    const races = redactedObject(this.results.map(({ number, result }) => plain(result, this.report.races[number - 1], number, (one) => this.listing.placeOfRace(0, one - 1))));
+    const races = redactedObject(this.results.map(({ number, result }) => plain(result, this.report.races[number - 1], number, (one) => this.listing.placeOfRace(0, one - 1), this.listing.entries.eventOf(0, number - 1))));
     this.listing.setVerdicts(0, races);
     this.write(replay, races, await this.linked);
   }
@@ -265,4 +282,4 @@ function replayRaces(recorder, options, traceFile, judged) {
   return new ReplayCommand(recorder, options, traceFile, judged).run();
 }
 
-module.exports = { canReplay, replayRaces };
+module.exports = { ReplayCommand, canReplay, replayRaces };

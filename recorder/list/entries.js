@@ -166,6 +166,15 @@ class Entries {
   }
 
   /**
+   * The event of a race that looks for handlers, as `click at button "Save"`; '' if there is none. Called by replay-command.js.
+   * @param {number} run @param {number} race its index
+   */
+  eventOf(run, race) {
+    const one = this.listing.runs[run].report.races[race];
+    return [0, 1].map((k) => this.sidesOf(run).eventAt(one, k)?.words).find(Boolean) || '';
+  }
+
+  /**
    * The race that comes first, if the line has the pattern of another one.
    * @param {Listed} line
    */

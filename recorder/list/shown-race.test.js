@@ -117,3 +117,10 @@ test('two sides of one act of a user are not told as two acts', async () => {
   assert.deepStrictEqual(await toldOf(1001), [['One act of a user runs two handlers that reach `x`', 'usually none: the browser decides the order', 'both come from one act of a user']]);
   assert.deepStrictEqual(await toldOf(2000), [['Two acts of a user reach `x`', FIXES.acts, 'two acts of a user']]);
 });
+
+test('the event of a race has the label of its element', async () => {
+  const { text, report } = await judgeLines(['parse 0 1 plain', 'parse 0 2 async', 'exec 2', 'w var 0 x', 'on 1', 'w slot 1 click/1', 'fire 1 1 click', 'r var 0 x', 'r slot 1 click/1', 'close 1']);
+  const facts = { elements: { 1: { tag: 'button', place: /** @type {Place} */ ([0, 3, 1]) } }, handlers: { 1: { type: 'click', target: 1 } } };
+  const { entries } = new Listing([new Problems(text, { ...NAMES, ...facts }, report)], null);
+  assert.deepStrictEqual(report.races.map(({ location }, race) => [location, entries.eventOf(0, race)]).sort(), [['slot 1 click/1', 'click at button "Three"'], ['var 0 x', '']]);
+});

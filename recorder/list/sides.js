@@ -145,16 +145,15 @@ class Sides {
    * @param {number} k
    */
   actorOf(race, k) {
-    return this.targetOf(race, k) || this.callbacks.of(race.actions[k]);
+    return this.eventAt(race, k)?.target ?? this.callbacks.of(race.actions[k]);
   }
 
   /**
-   * The target of a side that is an event which looks for handlers; '' if it is none.
+   * The event that a side is, if it looks for handlers. Called by entries.js.
    * @param {Race} race @param {number} k
    */
-  targetOf({ location, modes, actions }, k) {
-    const event = location.startsWith('slot ') && modes[k] === 'r' ? this.eventInWords(actions[k]) : null;
-    return event ? event.target : '';
+  eventAt({ location, modes, actions }, k) {
+    return location.startsWith('slot ') && modes[k] === 'r' ? this.eventInWords(actions[k]) : null;
   }
 
   /**
@@ -162,7 +161,7 @@ class Sides {
    * @param {Race} race @param {number} k
    */
   whereOf(race, k) {
-    return this.targetOf(race, k) ? '' : this.place(this.words.placeOfAccess(race.lines[k], race.actions[k]));
+    return this.eventAt(race, k) ? '' : this.place(this.words.placeOfAccess(race.lines[k], race.actions[k]));
   }
 
   /**

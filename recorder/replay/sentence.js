@@ -120,6 +120,17 @@ function ownOf(differences, worst, location, place) {
 }
 
 /**
+ * A lost event in the words of the list: these have the text or the classes of an element without an id.
+ * @param {Difference} one
+ * @param {string} event
+ */
+function withLabel(one, event) {
+  const [, words = '', rest = ''] = /^the (.*?)(: .*)$/.exec(one.subject) || [];
+  const isLonger = one.kind === 'event' && words && event.startsWith(words) && /^[ .]/.test(event.slice(words.length));
+  return isLonger ? { ...one, subject: `the ${event}${rest}` } : one;
+}
+
+/**
  * Other races that came in another order too: where a reader finds them, or else their numbers.
  * @param {number[]} astray
  * @param {string} place of the race itself
@@ -149,11 +160,12 @@ function ofNotTurned({ why = '', chance }) {
  * @param {string} location of the race
  * @param {string} place of the problem in the list
  * @param {(number: number) => string} placeOf the places of other races in the list; '' if it has none
+ * @param {string} event of the race, as the list has it; '' if it has none
  */
-function sentenceOf(result, worst, location = '', place = '', placeOf = () => '') {
+function sentenceOf(result, worst, location = '', place = '', placeOf = () => '', event = '') {
   const { verdict, differences = [], astray = [] } = result;
   if (verdict !== 'turned') return ofNotTurned(result);
-  const found = worst ? ofDifferences(differences, ownOf(differences, worst, location, place)) : ofNone(result);
+  const found = worst ? ofDifferences(differences, withLabel(ownOf(differences, worst, location, place), event)) : ofNone(result);
   if (!astray.length) return found;
   const others = othersOf(astray, place, placeOf);
   return worst ? `${found}; some of it may come from ${others}, which came in another order too` : `${found}; ${others} came in another order too`;

@@ -53,6 +53,15 @@ test('of several lost events the sentence has that of the race', () => {
   assert.match(sentenceOf({ verdict: 'turned', differences: [LOST, far, own] }, LOST, 'slot 12 click/6', 'other.js:7'), /does not find the click handler at other\.js:7, by/);
 });
 
+test('the element of a lost event has the label that it has in the list', () => {
+  const lost = difference('event', 'the click at button: the click handler onBuy', 'the click handler onBuy', 'not run', true);
+  const withEvent = (/** @type {string} */ event, one = lost) => sentenceOf({ verdict: 'turned', differences: [one] }, one, 'slot 12 click/5', '', () => '', event);
+  assert.strictEqual(withEvent('click at button "First dataset"'), 'in the other order the click at button "First dataset" does not find the click handler onBuy, and nothing else differs');
+  assert.match(withEvent('click at button.buy'), /the click at button\.buy does not find/);
+  for (const other of ['', 'click at button', 'click at buttons "x"', 'mousedown at button "x"']) assert.match(withEvent(other), /the click at button does not find/);
+  assert.match(withEvent('click at button#buy', LOST), /the click at button#buy does not find/);
+});
+
 test('races that came in another order too are named by their places', () => {
   const places = ['', 'own.js:1', 'a.js:1', 'own.js:1', 'b.js:2', 'c.js:3', 'd.js:4', 'e.js:5'];
   const one = (/** @type {number[]} */ ...astray) => sentenceOf({ verdict: 'turned', differences: [LOST], astray }, LOST, 'slot 1 click/1', 'own.js:1', (number) => places[number] ?? '').split('; ')[1];

@@ -143,13 +143,14 @@ function verdictInWords(result) {
  * @param {Race} race
  * @param {number} number
  * @param {(number: number) => string} [placeOf] the place of a race in the list, by its number; '' if it has none
+ * @param {string} [event] of the race, as the list has it; '' if it has none
  */
-function plain(result, race, number, placeOf = () => '') {
+function plain(result, race, number, placeOf = () => '', event = '') {
   const { verdict, why, means, note, isListed, isSteady, isSeenTwice, astray, differences, beside, unsteady, byDelay, group, order, chance, comparedAt, trace } = result;
   const worst = worstOf(result);
   return {
     race: number, lines: race.lines, location: race.location, verdict, effect: worst ? worst.name : undefined, words: verdictInWords(result), 
-    sentence: sentenceOf(result, worst?.difference, race.location, placeOf(number), placeOf), why,
+    sentence: sentenceOf(result, worst?.difference, race.location, placeOf(number), placeOf, event), why,
     means, note,
     isListed, isSteady, isSeenTwice, astray, differences, beside, unsteady, byDelay, group, order, chance, comparedAt, trace,
   };
