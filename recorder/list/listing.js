@@ -187,7 +187,8 @@ class Listing {
       if (known) known.others.push(line);
       else lines.set(key, { line, others: [] });
     }
-    return [...lines.values()].map((one) => shownByChange(one, (each) => JSON.stringify([each.look.look, this.partOf(each), this.rankOf(each)])));
+    const inWords = (/** @type {Listed} */ each) => JSON.stringify([each.look.look, this.partOf(each), this.rankOf(each)]);
+    return [...lines.values()].map((one) => shownByChange(one, inWords, (each) => !!this.verdictOf(each) && this.partOf(each) === this.partOf(one.line)));
   }
 
   /**

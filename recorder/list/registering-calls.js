@@ -62,13 +62,16 @@ function alsoByCall(own, others) {
 }
 
 /**
- * A line of handlers that one call registers: it is shown by one that changed something, if that is of the same rank. Called by listing.js.
+ * A line of handlers that one call registers: it is shown by the one that was replayed, else by one that changed something, if that is of the same rank. Called by
+ * listing.js.
  * @param {import('./listing.js').Line} told
  * @param {(one: import('./listing.js').Listed) => string} rankOf
+ * @param {(one: import('./listing.js').Listed) => boolean} isReplayed
  * @returns {import('./listing.js').Line}
  */
-function shownByChange({ line, others }, rankOf) {
-  const other = line.look.isUnchanged && others.find((one) => !one.look.isUnchanged && rankOf(one) === rankOf(line));
+function shownByChange({ line, others }, rankOf, isReplayed) {
+  const replayed = isReplayed(line) ? line : others.find((one) => isReplayed(one) && one.look.look === line.look.look);
+  const other = replayed ? replayed !== line && replayed : line.look.isUnchanged && others.find((one) => !one.look.isUnchanged && rankOf(one) === rankOf(line));
   return other ? { line: other, others: [line, ...others.filter((one) => one !== other)] } : { line, others };
 }
 

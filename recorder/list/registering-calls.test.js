@@ -75,6 +75,15 @@ test('other places, other calls: an event that comes again is in a section of it
   assert.deepStrictEqual([listing.partOf(line), /^make this call/.test(listing.fixOf(line))], ['loses what a user does', true], 'a replay found more than the lost event');
 });
 
+test('an entry is shown by the handler that was replayed, also if others come before it then', async () => {
+  const listing = new Listing([await problemsOf(() => [1, 1, 12], true)], null);
+  const [{ line }] = listing.told();
+  listing.setVerdicts(0, [{ race: line.first + 1, verdict: 'turned', words: '', sentence: 'a click is lost', effect: 'a lost act', differences: [{ kind: 'event' }] }]);
+  const [{ line: after, others }] = listing.told();
+  assert.deepStrictEqual([after.name, others.length], [line.name, 3]);
+  assert.deepStrictEqual(listing.entryOf(after, others).details.find(([label]) => label === 'replayed'), ['replayed', 'a click is lost']);
+});
+
 test('names stay, and with a file of known races each problem has its line', async () => {
   const [one, other] = [await problemsOf(() => [1, 1, 12], true), await problemsOf(() => [1, 1, 12], false)];
   assert.deepStrictEqual(one.list.map(({ name }) => name).sort(), other.list.map(({ name }) => name).sort());
