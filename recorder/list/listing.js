@@ -22,10 +22,7 @@ const { shownByChange } = require('./registering-calls.js');
  * A problem of all runs. `run` is the index of the first one, of which the other members are; `seen` has the races by name.
  * @typedef {Problem & {run: number, runs: number[], seen: Map<string, Seen>, orders: Set<number>, hasLine: boolean, isKnown: boolean}} Listed
  */
-/**
- * A line of the list, with the other problems that it stands for.
- * @typedef {{line: Listed, others: Listed[]}} Line
- */
+/** @typedef {{line: Listed, others: Listed[]}} Line a line of the list, with the other problems that it stands for */
 
 /** Made for each list: by page-races.js, view.js and replay-race.js; LoadsListing extends it. */
 class Listing {
@@ -161,20 +158,21 @@ class Listing {
   }
 
   /**
-   * Whether a problem counts if it is not known: that a user may do two things in another order is no fault of the page. Called by outputs.js.
+   * Whether a problem that is not known makes a build fail: `act against act` does only with `--acts` (`countsActs`), since it is no fault of the page that a
+   * user may do two things in another order. Called by outputs.js.
    * @param {Problem} problem
    */
   counts({ look }) {
     return this.countsActs || look.part !== APART;
   }
 
-  /** What a build fails for. */
+  /** What a build fails for, and a command with `--known`: the new problems. Called by many, as page-races.js for the exit status. */
   failing() {
     return this.fresh().filter((one) => this.counts(one));
   }
 
   /**
-   * The lines of the list: what is new at one location, and in one section of the list, is one line, and late handlers that one call registers. In a build each
+   * The lines of the list, as outputs.js and others print and count them: what is new at one location, and in one section of the list, is one line, and late handlers that one call registers. In a build each
    * problem is a line, with its name.
    * @returns {Line[]}
    */
@@ -187,8 +185,8 @@ class Listing {
       if (known) known.others.push(line);
       else lines.set(key, { line, others: [] });
     }
-    const inWords = (/** @type {Listed} */ each) => JSON.stringify([each.look.look, this.partOf(each), this.rankOf(each)]);
-    return [...lines.values()].map((one) => shownByChange(one, inWords, (each) => !!this.verdictOf(each) && this.partOf(each) === this.partOf(one.line)));
+    const keyOfRank = (/** @type {Listed} */ each) => JSON.stringify([each.look.look, this.partOf(each), this.rankOf(each)]);
+    return [...lines.values()].map((one) => shownByChange(one, keyOfRank, (each) => !!this.verdictOf(each) && this.partOf(each) === this.partOf(one.line)));
   }
 
   /**
