@@ -53,6 +53,16 @@ function mayEndBefore(node) {
  */
 const isNamedSuper = (node) => node.type === 'MemberExpression' && node.object.type === 'Super' && !node.computed;
 
+/**
+ * Whether marks in an expression leave what a mark before it keeps: a variable, or a member by its names. (Code of a getter may not; then a wrong key is read.)
+ * @param {Node} node
+ * @returns {boolean}
+ */
+function keepsWhatIsKept(node) {
+  if (node.type === 'MemberExpression') return !node.computed && keepsWhatIsKept(node.object);
+  return node.type === 'ThisExpression' || node.type === 'Identifier';
+}
+
 /** Extended by value-marks.js. */
 class MemberMarks extends ClosureMarks {
   /**
@@ -215,7 +225,7 @@ class MemberMarks extends ClosureMarks {
       this.visitChildren(node, scope);
       return;
     }
-    const isKept = this.isSimple(right, scope) || right.type === 'Identifier';
+    const isKept = keepsWhatIsKept(right);
     const key = this.visitKeyOfIn(left, scope, isKept);
     if (key) this.visitWrapped(right, scope, '__er.o(', `,${key},${this.siteAt(left, right)})`);
     else this.visit(right, scope);

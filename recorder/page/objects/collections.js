@@ -2,6 +2,7 @@
 // `Set.add`: which keys and items each of these methods reads or writes.
 
 import { Array, Map, Object, Set, apply, hasOwn } from '../core/taken.js';
+import { isThing } from '../core/things.js';
 import { CLASSES, ITEMS, LEFT_OUT, LIST, MAP, NAMES, OTHER_ITEMS, PLAIN, READ, SET, SINGLE_ITEMS, STORAGE, TREE, WRITE } from './holders.js';
 
 const mapHas = Map.prototype.has;
@@ -202,7 +203,17 @@ class Collections {
    */
   assign(target, object, site) {
     this.spread(object, site);
-    if (typeof target === 'object' && target !== null) this.#eachName(object, (name) => this.objects.properties.access(target, name, 'w', site));
+    this.define(target, object, site);
+  }
+
+  /**
+   * Properties get the names of those that another object has. Called by page/helpers/wholes.js.
+   * @param {unknown} target
+   * @param {object} object
+   * @param {number} site
+   */
+  define(target, object, site) {
+    if (isThing(target)) this.#eachName(object, (name) => this.objects.properties.access(target, name, 'w', site));
   }
 
   /**

@@ -74,6 +74,7 @@ class Properties {
   #accessWindow(page, name, modes, site) {
     const text = `${name}`;
     if (fits(/^\d+$/, text)) return; // a frame
+    page.globals.lastPieces[site] = 0; // a site where the window is an object as any other can have more names than one
     if (modes === 'r') page.globals.read(text, site);
     else if (modes === 'u') page.globals.update(text, site);
     else if (modes === 'U') page.globals.count(text, site);
