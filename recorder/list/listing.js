@@ -192,14 +192,15 @@ class Listing {
   }
 
   /**
-   * Equal for problems that are one line. All properties of the style of an element are one location.
+   * Equal for problems that are one line. All properties of the style of an element are one location. One act of a user and two are never one line: the browser
+   * decides the order of one, the user that of two.
    * @param {Listed} line
    */
   keyOf(line) {
     const { run, first, look } = line;
     const call = look.look === 'late' ? this.entries.callOf(line) : '';
     const location = this.runs[run].report.races[first].location.replace(/ style(?:\.\S+)?$/, ' style');
-    return call ? `${run} call ${call}` : `${this.partOf(line)} ${run} ${location}`;
+    return call ? `${run} call ${call}` : `${this.partOf(line)} ${look.detail === 'one'} ${run} ${location}`;
   }
 
   /** The lines of problems that are known. */
