@@ -43,10 +43,10 @@ async function repliesOf(calls) {
 
 test('"also" names only callbacks whose access is at the place that is shown', async () => {
   assert.deepStrictEqual(await repliesOf([69, 98, 105]), [['app.js:69:6', 'reply of data-1.json', ''], ['app.js:98:6', 'reply of data-2.json', '']]);
-  assert.deepStrictEqual((await repliesOf([69, 98, 98])).map(([, , also]) => also), ['', '(also data-3.json)']);
 });
 
-test('of several races that is shown whose two places most have', async () => {
+test('of several races of replies one is shown in which a callback writes over what it wrote itself, if there is one', async () => {
+  assert.deepStrictEqual(await repliesOf([69, 98, 98]), [['app.js:98:6', 'reply of data-2.json', ''], ['app.js:98:6', 'reply of data-3.json', '(also data-2.json)']]);
   assert.deepStrictEqual((await repliesOf([69, 98, 98, 98, 98])).map(([place]) => place), ['app.js:98:6', 'app.js:98:6']);
 });
 
