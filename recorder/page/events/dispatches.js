@@ -6,7 +6,7 @@ import { Map, Set, WeakMap, WeakSet, apply } from '../core/taken.js';
 import { spellName } from '../log/spelling.js';
 import { MOST_OPEN } from '../recording/open-dispatches.js';
 import { isOfTree } from './capturing.js';
-import { hasConsequences, isConsequence } from './consequences.js';
+import { hasConsequences, isConsequence, mayBeOfUser } from './consequences.js';
 
 /** @typedef {import('../types').Dispatch} Dispatch */
 /** @typedef {import('../types').Target} Target */
@@ -77,7 +77,7 @@ class Dispatches {
     }
     recording.push(dispatch);
     if (event.type === 'slotchange') page.observers.orderSlotChange(dispatch);
-    if (event.isTrusted && hasConsequences(event.type)) recording.watchTask();
+    if (mayBeOfUser(event, target) && hasConsequences(event.type)) recording.watchTask();
     page.tree.writeLate();
     this.readSlots(path.length ? path : [target], event.type, apply(this.natives.bubbles, event, []));
     page.fields.noteKey(dispatch);
@@ -140,7 +140,7 @@ class Dispatches {
    */
   #beginConsequence(dispatch) {
     const { recording } = this;
-    if (!dispatch.event.isTrusted || this.page.navigations.endsLater(dispatch.event)) return false;
+    if (!mayBeOfUser(dispatch.event, dispatch.target) || this.page.navigations.endsLater(dispatch.event)) return false;
     const { type } = dispatch.event;
     const now = this.natives.now();
     const height = heightOfLast(recording.dispatches, (one) => isConsequence(one, type, recording.task, now));
@@ -169,7 +169,7 @@ class Dispatches {
       page.connections.order(dispatch, request);
     } else if (!page.loading.begin(dispatch) && !page.messages.begin(dispatch) && !page.queued.begin(dispatch)) this.#beginAt(dispatch);
     dispatch.beginning = recording.running;
-    recording.log.name('dispatch', dispatch.number, { type: event.type, act: (event.isTrusted && recording.act) || undefined });
+    recording.log.name('dispatch', dispatch.number, { type: event.type, act: (mayBeOfUser(event, target) && recording.act) || undefined });
   }
 
   /**

@@ -101,6 +101,12 @@ exports.cases = [
     races: ['focus of document', 'error of window', 'change of document'],
   },
   {
+    page: 'media-query.html',
+    words: CLICK,
+    due: ['inline button#go click', 'w isNarrow', 'close', 'back', 'fire MediaQueryList change', 'run changes', 'r isNarrow'],
+    races: ['isNarrow'],
+  },
+  {
     page: 'throws-in-handler.html',
     words: CLICK,
     due: [
