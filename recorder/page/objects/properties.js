@@ -42,6 +42,7 @@ class Properties {
       case STYLE: case CLASSES: case DATA: if (known !== undefined) this.objects.trees.accessPart(known, object, name, modes, site); break;
       case STORAGE: this.#accessStorage(kinds.hold(object, site), `${name}`, modes, site); break;
       case WINDOW: if (known !== undefined) this.#accessWindow(known.object, name, modes, site); break;
+      case BUILTIN: break;
       default: this.#accessPlain(object, typeof name === 'number' ? `${name}` : name, modes, site);
     }
   }
