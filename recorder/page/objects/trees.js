@@ -3,7 +3,7 @@
 
 import { each, findItem } from '../core/lists.js';
 import { lowerCase, sliceOf } from '../core/strings.js';
-import { Object, Set, apply, getOwnPropertyDescriptor, hasOwn } from '../core/taken.js';
+import { Object, Set, apply, getOwnPropertyDescriptor, getPrototypeOf, hasOwn } from '../core/taken.js';
 import { UNKNOWN } from '../log/values.js';
 import { CLASSES, DATA, Holder, IS_OF_TREE, READ, STYLE } from './holders.js';
 import { isAccessor } from './kinds.js';
@@ -68,6 +68,7 @@ class Trees {
     this.variables = objects.variables;
     this.callers = objects.callers;
     this.madeElements = objects.madeElements;
+    this.prototypes = objects.prototypes;
     /**
      * The first page; it numbers the nodes of all.
      * @type {import('../types').Page|null}
@@ -162,8 +163,10 @@ class Trees {
     }
     const known = this.kinds.holders.get(node);
     const gone = known === undefined ? null : known.find(`${name}`);
+    const isMissing = !(name in node);
     if (known !== undefined && gone !== null) this.variables.touch(known, gone, READ, site);
-    else if (!(name in node)) this.variables.touchName(this.kinds.hold(node, site), `${name}`, READ, site);
+    else if (isMissing) this.variables.touchName(this.kinds.hold(node, site), `${name}`, READ, site);
+    if (isMissing || this.prototypes.names.has(name)) this.prototypes.read(getPrototypeOf(node), name, site);
   }
 
   /**
