@@ -3,7 +3,7 @@
 
 import { Array, Map, Object, Set, apply, getPrototypeOf, hasOwn } from '../core/taken.js';
 import { isThing } from '../core/things.js';
-import { CLASSES, ITEMS, LEFT_OUT, LIST, MAP, NAMES, OTHER_ITEMS, PLAIN, READ, SET, SINGLE_ITEMS, STORAGE, TREE, WRITE } from './holders.js';
+import { CLASSES, ITEMS, LEFT_OUT, LIST, MAP, NAMES, OTHER_ITEMS, PLAIN, READ, SET, SINGLE_ITEMS, STORAGE, STYLE, TREE, WRITE } from './holders.js';
 
 const mapHas = Map.prototype.has;
 const setHas = Set.prototype.has;
@@ -55,6 +55,7 @@ class Collections {
     const holder = this.kinds.holders.get(object);
     if (holder === undefined) return;
     if (holder.kind === TREE) this.objects.trees.accessAttribute(holder, key, method, site);
+    else if (holder.kind === STYLE) this.objects.trees.accessStyle(holder, key, method, site);
     else if ((holder.kind === MAP || holder.kind === SET) && !hasOwn(object, method)) this.#accessMapKey(holder, key, site, method);
   }
 
