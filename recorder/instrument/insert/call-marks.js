@@ -22,9 +22,13 @@ const METHODS = new Set(['push', 'pop', 'shift', 'unshift', 'splice', 'sort', 'r
   'slice', 'concat', 'reduce', 'reduceRight', 'flat', 'flatMap', 'entries', 'keys', 'values', 'at', 'toSorted', 'toReversed', 'toSpliced', 'with',
   'get', 'set', 'has', 'delete', 'add', 'clear',
   'appendChild', 'insertBefore', 'removeChild', 'replaceChild', 'append', 'prepend', 'replaceChildren', 'hasChildNodes',
-  'getAttribute', 'hasAttribute', 'setAttribute', 'removeAttribute', 'toggleAttribute', 'contains', 'toggle']);
+  'getAttribute', 'getAttributeNode', 'hasAttribute', 'setAttribute', 'removeAttribute', 'toggleAttribute', 'getAttributeNames', 'hasAttributes', 'contains', 'toggle',
+  'cloneNode', 'getHTML', 'getPropertyValue', 'getPropertyPriority', 'setProperty', 'removeProperty']);
 /** Those whose first argument is a key. */
-const KEYED_METHODS = new Set(['get', 'set', 'has', 'delete', 'add', 'getAttribute', 'hasAttribute', 'setAttribute', 'removeAttribute', 'toggleAttribute']);
+const KEYED_METHODS = new Set(['get', 'set', 'has', 'delete', 'add', 'getAttribute', 'getAttributeNode', 'hasAttribute', 'setAttribute', 'removeAttribute', 'toggleAttribute',
+  'cloneNode', 'getPropertyValue', 'getPropertyPriority', 'setProperty', 'removeProperty']);
+/** Methods that read their first argument, an element, with all that is in it. */
+const COPIES = new Set(['importNode', 'serializeToString']);
 /** Functions of the browser that read their first argument as a whole (`Object.keys` and others), and the helpers for that. */
 const READERS = new Map([['keys', 'n'], ['getOwnPropertyNames', 'n'], ['ownKeys', 'n'], ['values', 'e'], ['entries', 'e'], ['from', 'i'], ['fromEntries', 'i'],
   ['stringify', 'e']]);
@@ -144,6 +148,10 @@ class CallMarks extends ValueMarks {
   visitArguments({ arguments: args }, callee, scope) {
     const name = nameOf(callee);
     if (name === 'call') this.visitBorrowed(args, callee, scope);
+    else if (COPIES.has(name) && isValue(args[0])) {
+      this.visitWrapped(args[0], scope, '__er.m(', `,${quote(name)},${this.siteOfWhole(args[0])})`);
+      this.visitAll(args.slice(1), scope);
+    }
     else if (this.isTool(callee, scope)) this.visitArgumentsOfTool(args, name, scope);
     else this.visitAll(args, scope);
   }

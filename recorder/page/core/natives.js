@@ -27,6 +27,7 @@ function takeNatives(window) {
     hasAttribute: Element.prototype.hasAttribute,
     nameOfAttribute: getterOf(window.Attr.prototype, 'name'),
     getAttributeNames: Element.prototype.getAttributeNames,
+    getElementsByTagName: Element.prototype.getElementsByTagName,
     remove: Element.prototype.remove,
     contains: Node.prototype.contains,
     matches: Element.prototype.matches,

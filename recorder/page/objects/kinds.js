@@ -10,9 +10,12 @@ const NATIVE_TEXT = ' [native code] }';
 
 /** A prototype of the browser, and what kind of things it makes. */
 class Builtin extends Holder {
-  /** @param {number} makes */
-  constructor(makes) {
-    super(BUILTIN, 0, null);
+  /**
+   * @param {object} prototype
+   * @param {number} makes
+   */
+  constructor(prototype, makes) {
+    super(BUILTIN, -1, prototype);
     this.makes = makes;
   }
 }
@@ -35,6 +38,9 @@ class Kinds {
    */
   addWindow({ window }) {
     this.#addBuiltin(window.Object.prototype, PLAIN);
+    this.#addBuiltin(window.Function.prototype, PLAIN);
+    this.#addBuiltin(window.Array.prototype, PLAIN);
+    this.#addBuiltin(window.String.prototype, PLAIN);
     this.#addBuiltin(window.Node.prototype, TREE);
     this.#addBuiltin(window.Map.prototype, MAP);
     this.#addBuiltin(window.Set.prototype, SET);
@@ -47,7 +53,7 @@ class Kinds {
    * @param {number} makes
    */
   #addBuiltin(prototype, makes) {
-    const holder = new Builtin(makes);
+    const holder = new Builtin(prototype, makes);
     this.holders.set(prototype, holder);
     return holder;
   }
@@ -78,7 +84,7 @@ class Kinds {
   // ---- objects
 
   /**
-   * A prototype is the browser's if its constructor is. A page that changes methods of it is not seen. Called by properties.js.
+   * A prototype is the browser's if its constructor is (prototypes.js). Called by properties.js and prototypes.js.
    * @param {object} object
    * @returns {Holder}
    */
@@ -98,6 +104,16 @@ class Kinds {
   #isOfBrowser(object) {
     const maker = getOwnPropertyDescriptor(object, 'constructor');
     return maker ? typeof maker.value === 'function' && this.#isNative(maker.value) : isIterator(object);
+  }
+
+  /**
+   * The holder of a prototype of the browser that code touches itself; undefined if it is none. Called by properties.js.
+   * @param {object} object that has a constructor
+   */
+  meetPrototype(object) {
+    const maker = getOwnPropertyDescriptor(object, 'constructor');
+    if (!maker || typeof maker.value !== 'function' || !this.#isNative(maker.value)) return undefined;
+    return getOwnPropertyDescriptor(maker.value, 'prototype')?.value === object ? this.holdPrototype(object) : undefined;
   }
 
   /** @param {Function} maker */
