@@ -239,16 +239,6 @@ class Listing {
   }
 
   /**
-   * The place at which the list has the problem of a race. Called by replay-command.js.
-   * @param {number} run @param {number} race its index
-   */
-  placeOfRace(run, race) {
-    const name = this.runs[run].ofRaces[race]?.problem;
-    const problem = this.problems.find((one) => one.name === name);
-    return problem ? this.entries.placeOf(problem) : '';
-  }
-
-  /**
    * The first line of a problem.
    * @param {Listed} line
    */

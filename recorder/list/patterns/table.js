@@ -33,8 +33,8 @@ const LOOKS = {
 /**
  * A pattern as it was found in a race: `seen` says in words what was seen, and `here` which of the two orders the recording had; `rank` is its index in the
  * table. `detail` tells races of a pattern apart that do harm more often than others (list/rank.js). Of a late handler: `isUnchanged`, it ran and changed nothing;
- * `isIdle`, a user then loses little without it (idle.js); `comesAgain`, its event comes again by itself.
- * @typedef {{isUnchanged: boolean, isIdle: boolean, comesAgain: boolean}} Lateness
+ * `isOfLittle`, a user loses little without it if it changes nothing (idle.js); `isIdle`, both; `comesAgain`, its event comes again by itself.
+ * @typedef {{isUnchanged: boolean, isIdle: boolean, isOfLittle: boolean, comesAgain: boolean}} Lateness
  * @typedef {{look: LookKey, rank: number, name: string, part: string, seen: string, here: string, detail: Detail} & Lateness} Look
  */
 /**
@@ -78,11 +78,11 @@ const known = new Map();
  * @param {LookKey} look @param {string} seen @param {Detail} detail @param {Partial<Lateness>} lateness
  * @returns {Look}
  */
-function lookOf(look, seen = '', detail = '', { isUnchanged = false, isIdle = false, comesAgain = false } = {}) {
-  const key = `${look} ${detail} ${isUnchanged} ${isIdle} ${comesAgain} ${seen}`;
+function lookOf(look, seen = '', detail = '', { isUnchanged = false, isIdle = false, isOfLittle = isIdle, comesAgain = false } = {}) {
+  const key = `${look} ${detail} ${isUnchanged} ${isIdle} ${isOfLittle} ${comesAgain} ${seen}`;
   let one = known.get(key);
   const here = /(?:^|[;:] )here (.*)$/.exec(seen)?.[1] || '';
-  if (!one) known.set(key, one = { look, rank: RANKS.indexOf(look), ...LOOKS[look], seen, here, detail, isUnchanged, isIdle, comesAgain });
+  if (!one) known.set(key, one = { look, rank: RANKS.indexOf(look), ...LOOKS[look], seen, here, detail, isUnchanged, isIdle, isOfLittle, comesAgain });
   return one;
 }
 
