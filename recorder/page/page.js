@@ -34,6 +34,7 @@ import { Messages } from './events/messages.js';
 import { Motions } from './events/motions.js';
 import { Navigations } from './events/navigations.js';
 import { OnHandlers } from './events/on-handlers.js';
+import { Played } from './events/played.js';
 import { Queued } from './events/queued.js';
 import { Addresses } from './scripts/addresses.js';
 import { Broken } from './scripts/broken.js';
@@ -95,6 +96,7 @@ class Page {
     this.causes = new Causes(this);
     this.motions = new Motions(this);
     this.media = new Media(this);
+    this.played = new Played(this);
     this.navigations = new Navigations(this);
     this.guards = new Guards(this);
     this.handlers = new Handlers(this);

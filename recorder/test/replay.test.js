@@ -167,7 +167,7 @@ for (const atOnce of ['1', '4']) {
     command.kill('SIGINT');
     assert.strictEqual(await command.ended, 130, command.said);
     assert.match(command.said, /er_page: stopped/);
-    assert.match(command.output, /^Replayed 1 of 3 races: 0 differ, 0 could not be turned, 1 have no visible difference\.$/m);
+    assert.match(command.output, /^Replayed 1 of 3 races: 0 differ, 1 without a visible difference\.$/m);
     const races = replayedIn(path.join(place, 'races.races'));
     assert.deepStrictEqual(races.map(({ verdict, effect }) => [verdict, effect]), [['turned', undefined]]);
     const view = fs.readFileSync(path.join(place, 'races.races', 'page.html'), 'utf8');

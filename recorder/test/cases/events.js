@@ -348,6 +348,27 @@ exports.cases = [
       'fire audio#sound play', 'run begins', 'r asked', 'close', 'on the event before', 'fire audio#sound ended', 'run the event before', 'run over', 'r isPlaying'],
     races: ['click of button'],
   },
+  {
+    page: 'played.html',
+    words: ['--do', 'click:button', '--do', 'wait:1000'],
+    due: ['fire audio#sound canplay', 'w isReady', 'on the event before', 'inline button click', 'new audio#sound plain', 'fire audio#sound playing', 'run the event before',
+      'r isReady', 'w state', 'close', 'on play()', 'fire promise reactions then-1', 'run play()', 'run told', 'r state', 'fire audio#sound timeupdate',
+      'run what loaded it', 'run moves', 'r seconds', 'r state'],
+    races: ['click of button', 'loadedmetadata of audio#sound'],
+  },
+  {
+    page: 'played-either-source.html',
+    words: ['--do', 'click:button', '--do', 'wait:1000'],
+    due: ['timer', 'fire audio canplay', 'w last', 'inline button click', 'fire audio playing', 'run begins', 'w last'],
+    never: ['on what loaded it', 'run what loaded it'],
+    races: ['click of button', 'last'],
+  },
+  {
+    page: 'played-by-itself.html',
+    words: ['--do', 'click:button', '--do', 'wait:1000'],
+    due: ['inline button click', 'fire audio#sound loadeddata', 'w isReady', 'close', 'on what loaded it', 'fire audio#sound playing', 'run what loaded it', 'r isReady'],
+    races: ['click of button'],
+  },
   { page: 'motions-of-one.html', due: ['timer', 'fire p#first transitionend', 'w last', 'fire p#second transitionend', 'w last'], never: ['on the event before'], races: ['last'] },
   {
     page: 'media-in-order.html',
