@@ -7,6 +7,7 @@ import { Object, Set, apply, getOwnPropertyDescriptor, hasOwn } from '../core/ta
 import { UNKNOWN } from '../log/values.js';
 import { CLASSES, DATA, Holder, IS_OF_TREE, READ, STYLE } from './holders.js';
 import { isAccessor } from './kinds.js';
+import { noteMember } from './members.js';
 
 const CONTENT = 'content';
 /**
@@ -129,6 +130,7 @@ class Trees {
   access(node, name, modes, site) {
     if (this.notePart(node, name, site)) return;
     this.madeElements.noteStep(node, name);
+    noteMember(this.recording, node, name, modes, site);
     const shown = typeof name === 'string' && node.nodeType === 1 ? SHOWN[name] || null : null;
     if (shown !== null) this.#touch(this.kinds.hold(node, site), shown, modes, site);
     else if (modes === 'r') this.#readOwn(node, name, site);
