@@ -73,6 +73,13 @@ exports.cases = [
     races: ['queue'],
   },
   {
+    page: 'settled-object.html',
+    due: ['reply', 'w items', 'inline what settled the promise settled', 'reply', 'w hidden', 'inline what settled the promise settled', 'reply', 'w caught',
+      'inline what settled the promise settled', 'timer', 'run what settled the promise', 'run await', 'r items', 'timer', 'run what settled the promise', 'r hidden', 'timer',
+      'run what settled the promise', 'r caught', 'timer', 'r last', 'timer', 'r either'],
+    races: ['either', 'last'],
+  },
+  {
     page: 'settled-by-await.html',
     due: ['timer', 'on await', 'timer', 'w items', 'inline what settled the promise settled', 'on what settled the promise', 'back', 'run await', 'w who', 'timer',
       'run what settled the promise', 'run await', 'r items', 'w who'],
