@@ -26,6 +26,8 @@ const { APART, HARMLESS, IDLE, SAME, UNCHANGED } = require('./patterns/table.js'
  */
 
 const MOST_NAMED = 3;
+/** Sections of which no problem says that it was not replayed. */
+const NOT_WANTED = new Set([APART, HARMLESS, IDLE]);
 /** So many races of a problem are looked through for what else has the same two places. */
 const MOST_RACES = 500;
 
@@ -55,7 +57,11 @@ class Entries {
     this.folder = folder;
     /** @type {Sides[]} by run */
     this.sides = [];
-    this.notReplayedWords = 'no (--most N replays more races)';
+    /**
+     * What a problem has in place of a verdict. Set by replay-command.js.
+     * @type {(line: Listed) => string}
+     */
+    this.notReplayedWords = () => '';
   }
 
   /**
@@ -198,12 +204,11 @@ class Entries {
   }
 
   /**
-   * What a problem has in place of a verdict, if others have one.
+   * What a problem has in place of a verdict, if a reader might want one.
    * @param {Listed} line
    */
-  notReplayed({ look }) {
-    const isSome = this.listing.verdicts.some((verdicts) => verdicts?.size);
-    return isSome && look.part !== APART ? this.notReplayedWords : '';
+  notReplayed(line) {
+    return NOT_WANTED.has(this.listing.partOf(line)) ? '' : this.notReplayedWords(line);
   }
 
   /**
