@@ -194,13 +194,23 @@ class Entries {
    */
   details(line, others) {
     const { look } = line;
-    const here = others.some((one) => one.look.look === look.look && !one.look.isUnchanged) ? look.here.replace(UNCHANGED, '') : look.here;
+    const isChanging = others.some((one) => one.look.look === look.look && !one.look.isUnchanged);
+    const here = isChanging ? look.here.replace(UNCHANGED, '') : look.here;
     const cause = this.causeOf(line);
     const replay = this.listing.verdictOf(line);
     const seen = this.listing.seenInWords(line);
     /** @type {Entry['details']} */
-    const all = [['cause', cause ? summaryOf(cause) : ''], ['recorded', here], ['replayed', replay ? replay.sentence || replay.words : this.notReplayed(line)], ['runs', seen], ['fix', this.fixOf(line, others)]];
+    const all = [['cause', cause ? summaryOf(cause) : ''], ['recorded', this.recordedInWords(line, here)], ['replayed', replay ? replay.sentence || replay.words : this.notReplayed(line)], ['runs', seen], ['fix', this.fixOf(line, others)]];
     return all.filter(([, text]) => text);
+  }
+
+  /**
+   * Which order the recording had, in words. If another race of the problem had the other one, nobody has to guess what that does.
+   * @param {Listed} line @param {string} here the order of the race that is shown
+   */
+  recordedInWords({ orders }, here) {
+    const isBoth = this.listing.runs.length === 1 && orders.size > 1; // of several runs another line has it
+    return here && isBoth ? `both orders came; here ${here.replace(/[,;] (?:and )?in the other order .*$/, '')}` : here;
   }
 
   /**

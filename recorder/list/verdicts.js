@@ -5,7 +5,7 @@
 /** @typedef {'differs'|'others'|'not'|'same'} Kind */
 
 /**
- * What a replay found of a race: only er_page and er_replay tell whether a difference comes from another race.
+ * What a replay found of a race: only er_page and er_replay find out whether a difference comes from another race.
  * @param {Pick<Verdict, 'kind'|'verdict'|'effect'>} verdict
  * @returns {Kind}
  */
