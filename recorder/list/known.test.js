@@ -204,6 +204,6 @@ test('what came of a race in the other order stands in the object and in SARIF',
   assert.deepStrictEqual(told.replay, { race: problem.races[0] + 1, verdict: 'turned', differs: true, differsByItself: true, effect: 'an uncaught error', ownEffect: 'an uncaught error', from: undefined, sentence, words });
   assert.deepStrictEqual([told.name, others], [problem.name, []]);
   const [result] = sarifOf(listing, { page: PAGE, folder: null }).runs[0].results.filter(({ properties }) => properties?.replay);
-  assert.match(result.message.text, /Run again in the other order: turned: differs: error/);
+  assert.match(result.message.text, / Replayed: in the other order an uncaught error: TypeError\.$/);
   assert.deepStrictEqual(result.properties?.replay, { verdict: 'turned', differs: true, differsByItself: true, effect: 'an uncaught error' });
 });
