@@ -13,6 +13,7 @@ function takeNatives(window) {
     addEventListener: EventTarget.prototype.addEventListener,
     dispatchEvent: EventTarget.prototype.dispatchEvent,
     composedPath: Event.prototype.composedPath,
+    bubbles: getterOf(Event.prototype, 'bubbles'),
     readyState: getterOf(Document.prototype, 'readyState'),
     initEvent: Event.prototype.initEvent,
     getElementById: Document.prototype.getElementById,

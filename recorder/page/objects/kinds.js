@@ -91,11 +91,19 @@ class Kinds {
   holdPrototype(object) {
     const known = this.holders.get(object);
     if (known !== undefined) return known;
-    const maker = getOwnPropertyDescriptor(object, 'constructor');
-    const isOfBrowser = maker ? typeof maker.value === 'function' && this.#isNative(maker.value) : isIterator(object);
-    if (!isOfBrowser) return this.hold(object, -1);
+    return this.#isOfBrowser(object) ? this.#addPrototype(object) : this.hold(object, -1);
+  }
+
+  /** @param {object} object */
+  #addPrototype(object) {
     const up = getPrototypeOf(object);
     return this.#addBuiltin(object, up === null ? PLAIN : madeBy(this.holdPrototype(up)));
+  }
+
+  /** @param {object} object */
+  #isOfBrowser(object) {
+    const maker = getOwnPropertyDescriptor(object, 'constructor');
+    return maker ? typeof maker.value === 'function' && this.#isNative(maker.value) : isIterator(object);
   }
 
   /**
@@ -103,9 +111,9 @@ class Kinds {
    * @param {object} object that has a constructor
    */
   meetPrototype(object) {
-    const maker = getOwnPropertyDescriptor(object, 'constructor');
-    if (!maker || typeof maker.value !== 'function' || !this.#isNative(maker.value)) return undefined;
-    return getOwnPropertyDescriptor(maker.value, 'prototype')?.value === object ? this.holdPrototype(object) : undefined;
+    const maker = getOwnPropertyDescriptor(object, 'constructor')?.value;
+    if (typeof maker !== 'function' || !this.#isNative(maker)) return undefined;
+    return getOwnPropertyDescriptor(maker, 'prototype')?.value === object ? this.holdPrototype(object) : undefined;
   }
 
   /** @param {Function} maker */
@@ -128,10 +136,20 @@ class Kinds {
     for (let depth = 0; at !== null && depth < LONGEST_PROTOTYPE_CHAIN; depth++) {
       const holder = this.holdPrototype(at);
       if (holder.kind === LEFT_OUT) return PLAIN; // a proxy is asked nothing
-      if (holder.kind === BUILTIN) return this.#isMade(object, madeBy(holder)) ? madeBy(holder) : PLAIN;
+      if (holder.kind === BUILTIN) return this.#isMade(object, madeBy(holder)) ? madeBy(holder) : this.#kindOfUnmade(object);
       at = getPrototypeOf(at);
     }
     return PLAIN;
+  }
+
+  /**
+   * The kind of an object that only inherits what elements or storages have. A prototype of the browser that code meets before what it makes, such as
+   * `HTMLMediaElement.prototype`, is no plain object, else these would be.
+   * @param {object} object
+   * @returns {number}
+   */
+  #kindOfUnmade(object) {
+    return this.#isOfBrowser(object) ? this.#addPrototype(object).kind : PLAIN;
   }
 
   /**
@@ -152,7 +170,9 @@ class Kinds {
   hold(object, site) {
     let holder = this.holders.get(object);
     if (holder === undefined) {
-      holder = new Holder(this.kindOf(object), site, object);
+      const kind = this.kindOf(object);
+      if (kind === BUILTIN) return /** @type {Holder} */ (this.holders.get(object));
+      holder = new Holder(kind, site, object);
       holder.since = this.recording.actions;
       if (holder.kind === TREE) holder.maker = this.objects.madeElements.makerOf(object);
       this.holders.set(object, holder);
