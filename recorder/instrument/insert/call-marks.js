@@ -68,8 +68,10 @@ class CallMarks extends ValueMarks {
     else if (METHODS.has(nameOf(callee)) && !this.isLeftOut(callee, scope) && !mayEndBefore(callee.object)) this.callMethod(node, callee, scope);
     else {
       this.visit(callee, scope);
-      const close = this.markPosting(node);
+      const close = this.markMaking(node, scope);
+      const closePosting = this.markPosting(node);
       this.visitArguments(node, callee, scope);
+      closePosting();
       close();
     }
   }
