@@ -28,7 +28,7 @@ function takeNatives(window) {
     nameOfAttribute: getterOf(window.Attr.prototype, 'name'),
     getAttributeNames: Element.prototype.getAttributeNames,
     remove: Element.prototype.remove,
-    unscopables: Object.keys(Element.prototype[Symbol.unscopables]),
+    unscopables: Object.keys(/** @type {any} */ (Element.prototype)[Symbol.unscopables]),
     contains: Node.prototype.contains,
     matches: Element.prototype.matches,
     getAnimations: Document.prototype.getAnimations,

@@ -24,10 +24,10 @@ class Unmarked {
     this.isInPiece = false;
     this.pieces = 0;
     /**
-     * The script elements whose runs marks have told.
+     * The script elements whose runs had marks.
      * @type {WeakSet<Element>}
      */
-    this.told = new WeakSet();
+    this.marked = new WeakSet();
   }
 
   /** A call of the running piece can write global variables. Called by page/accesses/unseen.js and page/events/dispatches.js. */
@@ -65,11 +65,11 @@ class Unmarked {
   }
 
   /**
-   * A script has loaded: it has run by now, and its marks have told so, or it has none. Called by page/document/loading.js.
+   * A script has loaded: it has run by now, and its marks have marked so, or it has none. Called by page/document/loading.js.
    * @param {Element} element
    */
   noteLoaded(element) {
-    if (!this.told.has(element)) this.isAnywhere = true;
+    if (!this.marked.has(element)) this.isAnywhere = true;
   }
 
   /**

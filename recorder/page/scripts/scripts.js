@@ -122,7 +122,7 @@ class Scripts {
     if (page.tree.staticScripts.has(number) || page.elements.awaited.has(number)) recording.running.awaits = page;
     if (element) {
       page.insertions.due.delete(element);
-      recording.unmarked.told.add(element);
+      recording.unmarked.marked.add(element);
     }
     this.last = { element, number, event: recording.running };
     page.joins.here(recording.formers.get(page.number) || [], 'the page before in the frame');
