@@ -65,7 +65,7 @@ class Unmarked {
   }
 
   /**
-   * A script has loaded: it has run by now, and its marks have marked so, or it has none. Called by page/document/loading.js.
+   * A script has loaded, so it has run: without a note of that it had no marks. Called by page/document/loading.js.
    * @param {Element} element
    */
   noteLoaded(element) {
