@@ -11,6 +11,7 @@ const { answersAtOnce, programState } = require('./races/program.js');
 const { RecordingFault } = require('./recording/recorder.js');
 const { Replay, isStop } = require('./replay/replay.js');
 const { MOST_BY_ITSELF, LONGEST_BY_ITSELF } = require('./replay-by-itself.js');
+const { leftOutInWords } = require('./replay-left-out.js');
 const { ReplayProgress } = require('./replay-progress.js');
 const { ReplayResults, raceOf } = require('./replay-results.js');
 const { writePage } = require('./view.js');
@@ -28,8 +29,6 @@ const { writePage } = require('./view.js');
  * What is known of the recorded run; `linked` is the model with all of the view's links.
  * @typedef {{report: Report, model: Shown, linked: Promise<Shown>, listing: Listing}} Judged
  */
-
-const ONLY_OTHERS = 'no (only other problems were replayed)';
 
 /** How many races are replayed if nobody says so. */
 const MOST_IF_REQUESTED = 20;
@@ -79,11 +78,15 @@ class ReplayCommand {
     printError(`${this.options.name}: ${text}`);
   }
 
-  /** The races that are requested: by their numbers, else the first of each line of the list. By itself, known ones are not replayed. */
+  /**
+   * The races that are requested: by their numbers, else the first of each line of the list that the first run has, since that is run again. By itself, known
+   * ones are not replayed.
+   */
   wanted() {
     const { races, isReplayed } = this.options;
     const told = this.listing.told().map(({ line }) => line);
-    const numbers = races.length ? races : [...told, ...isReplayed ? this.listing.knownLines() : []].map(raceOf);
+    const lines = [...told, ...isReplayed ? this.listing.knownLines() : []].filter(({ run }) => run === 0);
+    const numbers = races.length ? races : lines.map(raceOf);
     /** @param {number} number */
     const isThere = (number) => !!this.report.races[number - 1];
     const wrong = numbers.find((number) => !isThere(number));
@@ -101,9 +104,12 @@ class ReplayCommand {
     return this.wanted().slice(0, this.most());
   }
 
-  /** What the list says of a problem without a verdict: `--most` leaves it out only if there are more races. */
-  noteLeftOut() {
-    if (this.wanted().length <= this.most()) this.listing.entries.notReplayedWords = ONLY_OTHERS;
+  /**
+   * Has the list say why a problem was not replayed.
+   * @param {string} why
+   */
+  noteLeftOut(why) {
+    this.listing.entries.notReplayedWords = (line) => leftOutInWords(line, this.options, this.traceFile, why);
   }
 
   /** Whether the page is allowed to load again and again. Requests that might change something on a server need `--yes`. */
@@ -131,7 +137,7 @@ class ReplayCommand {
     }
     const replay = new Replay(this.recorder, this.options, this.traceFile, this.report);
     let status = STATUS.ok;
-    this.noteLeftOut();
+    this.noteLeftOut(`not among the first ${this.most()}`);
     const limit = this.limit(replay);
     try {
       await stoppable(() => replay.interrupt(), () => this.replayEach(replay));
@@ -139,7 +145,7 @@ class ReplayCommand {
       if (!(fault instanceof RecordingFault)) throw fault;
       const isOver = limit.isReached && isStop(fault);
       this.complain(isOver ? `replays ended after ${LONGEST_BY_ITSELF / 1000} s, with ${this.results.all.length} of ${this.numbers().length} races done; --replay does all` : fault.message);
-      if (isOver) this.listing.entries.notReplayedWords = `no (${LONGEST_BY_ITSELF / 1000} s were over; --replay does all)`;
+      this.noteLeftOut(isOver ? `${LONGEST_BY_ITSELF / 1000} s were over` : 'the replays were stopped');
       status = isOver ? STATUS.ok : fault.status;
     } finally {
       limit.end();

@@ -32,7 +32,7 @@ const raceOf = ({ races, first }) => (first ?? races[0]) + 1;
  * @param {number} number
  */
 function lineOf(listing, number) {
-  const told = listing.told().find(({ line: problem }) => raceOf(problem) === number);
+  const told = listing.told().find(({ line }) => line.run === 0 && raceOf(line) === number);
   return told ? `${listing.summaryOf(told.line)}:` : `race ${number}:`;
 }
 

@@ -96,7 +96,7 @@ function uriOfPage({ names }, page, folder) {
 function result(listing, problem, facts) {
   const { name, look, words, isKnown, run, first } = problem;
   const replay = listing.verdictOf(problem);
-  const inOtherOrder = replay && `Run again in the other order: ${replay.words}.`;
+  const inOtherOrder = replay && `Replayed: ${replay.sentence || replay.words}.`;
   return {
     ruleId: idOf(look.look),
     ruleIndex: RANKS.indexOf(look.look),

@@ -66,6 +66,7 @@ const CLAUSES = {
   load: ({ other }) => `the load event of the window ${other}`,
   request: ({ subject, other }) => `${cut(fileOf(subject))} is ${other === 'made' ? '' : 'not '}requested`,
   picture: () => 'the picture of the page differs',
+  suite: ({ other }) => `the suite fails (status ${other})`,
 };
 
 /**

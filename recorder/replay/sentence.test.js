@@ -28,6 +28,7 @@ test('an effect of each kind is a short sentence', () => {
   assert.strictEqual(of(difference('request', 'GET http://localhost/a/cart.json', 'made', 'not made')), 'in the other order cart.json is not requested');
   assert.strictEqual(of(difference('request', 'POST http://shop.invalid/save', 'not made', 'made')), 'in the other order POST save is requested');
   assert.strictEqual(of(difference('picture', 'the picture', 'as recorded', '79 of 784300 points differ')), 'in the other order the picture of the page differs');
+  assert.strictEqual(of(difference('suite', "the suite's status", '0', '1')), 'in the other order the suite fails (status 1)');
 });
 
 test('two texts are one clause, more are told by the first', () => {

@@ -136,7 +136,7 @@ test('the shop, by the command', { timeout: 400000 }, async () => {
   const all = JSON.parse(fs.readFileSync(sarif, 'utf8')).runs[0].results;
   const results = all.filter(({ properties }) => properties?.replay);
   assert.strictEqual(results.length, races.length);
-  results.forEach(({ message }) => assert.match(message.text, /Run again in the other order: turned: differs: /));
+  results.forEach(({ message }) => assert.match(message.text, / Replayed: in the other order /));
   await seeView(path.join(folder, 'shop.races', 'page.html'), races.length);
 });
 
