@@ -219,7 +219,8 @@ function sentenceOf(result, worst, location = '', number = 0, whereOf = () => NO
   const own = ownOf(result);
   const found = worst ? ofDifferences(own, withLabel(eventOf(own, worst, location, where.own), event)) : ofNone(result);
   const some = suspectsOf(result);
-  if (!some.length) return found;
+  const isOfEntry = where.index >= 0 && some.every((one) => whereOf(one).index === where.index);
+  if (!some.length || (worst && isOfEntry)) return found; // one change mends the entry, whichever of its races it comes from
   const others = racesInWords(some, where, whereOf);
   if (!worst) return `${found}; ${others} came in another order too`;
   return `${found}; ${result.isReader ? `${READS_ONLY}, so ` : ''}some of it may come from ${others}, which came in another order too`;
