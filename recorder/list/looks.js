@@ -116,18 +116,19 @@ class Looks {
     const isUnchanged = k === 1 && this.idle.isUnchanged(number, handler);
     const here = k === 0 ? 'here it came before the handler was set' : `here the handler was there${isUnchanged ? UNCHANGED : ''}`;
     const isIdle = isUnchanged && (look === 'missed' || this.idle.isOfLittle(number, target, type));
-    const facts = { isUnchanged, isIdle, comesAgain: look === 'late' && isAgain(type), link: look === 'late' ? this.linkOf(number, type) : '' };
+    const facts = { isUnchanged, isIdle, comesAgain: look === 'late' && isAgain(type), link: look === 'late' ? this.linkOf(number, type, isUnchanged) : '' };
     return lookOf(look, `a handler that comes late: ${this.words.action(number)} may find none; ${here}`, detailOf(look, 'slot', type), facts);
   }
 
   /**
-   * Whether an event is a click at a link, or comes along with it.
-   * @param {number} number of the action that starts the dispatch @param {string} type
+   * Whether an event is a click at a link, or comes along with it. A handler that ran and changed nothing might ask before the browser follows the link.
+   * @param {number} number of the action that starts the dispatch @param {string} type @param {boolean} isUnchanged
    * @returns {Look['link']}
    */
-  linkOf(number, type) {
+  linkOf(number, type, isUnchanged) {
     const { words: [word, , element] } = this.actions.list[this.actions.list[number].first];
-    return word === 'fire' || word === 'inline' ? linkOf(this.words, element, type) : '';
+    const link = word === 'fire' || word === 'inline' ? linkOf(this.words, element, type) : '';
+    return link === 'click' && isUnchanged ? '' : link;
   }
 
   /**

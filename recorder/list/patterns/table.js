@@ -92,13 +92,14 @@ function lookOf(look, seen = '', detail = '', { isUnchanged = false, isIdle = fa
 /**
  * By which pattern a line is shown if it covers several, the lowest first: typed text that is lost comes before events, and a late handler that changed nothing
  * or whose event comes again after all that may do harm, except if it changed nothing and a user chooses something by its event. Two acts of a user come before
- * one, of which the browser decides the order. A click at a link comes after other clicks.
+ * one, of which the browser decides the order. A click at a link comes after other clicks, then one whose
+ * handler changed nothing.
  * @param {Pick<Look, 'look'|'rank'|'detail'|'isUnchanged'|'isIdle'|'comesAgain'|'link'>} look
  */
 function severityOf({ look, rank, detail, isUnchanged, isIdle, comesAgain, link }) {
   if (isIdle || comesAgain || (isUnchanged && detail !== 'choosing')) return RANKS.indexOf('other') + 1 / 2;
   if (look === 'field') return -2;
-  if (look === 'late') return detail === 'choosing' ? (link ? -1 / 2 : -1) : RANKS.indexOf('act') + 1 / 2;
+  if (look === 'late') return detail === 'choosing' ? -1 / ((link ? 2 : 1) * (isUnchanged ? 3 : 1)) : RANKS.indexOf('act') + 1 / 2;
   return detail === 'one' ? rank + 1 / 2 : rank;
 }
 
