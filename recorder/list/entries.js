@@ -28,9 +28,12 @@ const { APART, HARMLESS, IDLE, SAME, UNCHANGED } = require('./patterns/table.js'
  */
 
 const BOTH = 'both orders came';
+const IN_OTHER_ORDER = /[,;] (?:and )?in the other order .*$/;
 /** The sum of the two orders. */
 const BOTH_ORDERS = 3;
 const MOST_NAMED = 3;
+/** Sections of which no problem says that it was not replayed. */
+const NOT_WANTED = new Set([APART, HARMLESS, IDLE]);
 /** So many races of a problem are looked through for what else has the same two places. */
 const MOST_RACES = 500;
 
@@ -60,7 +63,11 @@ class Entries {
     this.folder = folder;
     /** @type {Sides[]} by run */
     this.sides = [];
-    this.notReplayedWords = 'no (--most N replays more races)';
+    /**
+     * What a problem has in place of a verdict. Set by replay-command.js.
+     * @type {(line: Listed) => string}
+     */
+    this.notReplayedWords = () => '';
     this.sameCauses = new SameCauses(this);
   }
 
@@ -203,18 +210,18 @@ class Entries {
   }
 
   /**
-   * Which of the two orders the recording had; both, if the races of an entry came in both. Called by listing.js.
+   * Which of the two orders the recording had; if races of the entry came in both, nobody has to guess what the other order does. Called by listing.js.
    * @param {Listed} line @param {Listed[]} others
    */
   recordedOf(line, others) {
     const { look } = line;
     const alike = [line, ...others.filter((one) => one.look.look === look.look)];
-    const isChanged = alike.some((one) => !one.look.isUnchanged);
+    const isChanging = alike.some((one) => !one.look.isUnchanged);
+    const here = isChanging ? look.here.replace(UNCHANGED, '') : look.here;
     const { recorded, turned } = this.toldOf(line);
-    if (alike.some((one) => one.worst === undefined && this.isInBothOrders(one))) {
-      return [BOTH, look.here.endsWith(UNCHANGED) && !isChanged ? UNCHANGED.replace(', and', 'the handler') : turned].filter(Boolean).join('; ');
-    }
-    return (isChanged ? look.here.replace(UNCHANGED, '') : look.here) || recorded;
+    const isOneRun = this.listing.runs.length === 1; // of several runs another line has it
+    if (!isOneRun || !alike.some((one) => one.worst === undefined && this.isInBothOrders(one))) return here || recorded;
+    return [BOTH, here ? `here ${here.replace(IN_OTHER_ORDER, '')}` : turned].filter(Boolean).join('; ');
   }
 
   /**
@@ -236,12 +243,11 @@ class Entries {
   }
 
   /**
-   * What a problem has in place of a verdict, if others have one.
+   * What a problem has in place of a verdict, if a reader might want one.
    * @param {Listed} line
    */
-  notReplayed({ look }) {
-    const isSome = this.listing.verdicts.some((verdicts) => verdicts?.size);
-    return isSome && look.part !== APART ? this.notReplayedWords : '';
+  notReplayed(line) {
+    return NOT_WANTED.has(this.listing.partOf(line)) ? '' : this.notReplayedWords(line);
   }
 
   /**

@@ -22,10 +22,7 @@ const { partOf, rankOf, sortByRank } = require('./rank.js');
  * A problem of all runs. `run` is the index of the first one, of which the other members are; `seen` has the races by name.
  * @typedef {Problem & {run: number, runs: number[], seen: Map<string, Seen>, orders: Set<number>, hasLine: boolean, isKnown: boolean}} Listed
  */
-/**
- * A line of the list, with the other problems that it stands for.
- * @typedef {{line: Listed, others: Listed[]}} Line
- */
+/** @typedef {{line: Listed, others: Listed[]}} Line a line of the list, with the other problems that it stands for */
 
 /** Made for each list: by page-races.js, view.js and replay-race.js; LoadsListing extends it. */
 class Listing {
@@ -161,20 +158,21 @@ class Listing {
   }
 
   /**
-   * Whether a problem counts if it is not known: that a user may do two things in another order is no fault of the page. Called by outputs.js.
+   * Whether a problem that is not known makes a build fail: `act against act` does only with `--acts` (`countsActs`), since it is no fault of the page that a
+   * user may do two things in another order. Called by outputs.js.
    * @param {Problem} problem
    */
   counts({ look }) {
     return this.countsActs || look.part !== APART;
   }
 
-  /** What a build fails for. */
+  /** What a build fails for, and a command with `--known`: the new problems. Called by many, as page-races.js for the exit status. */
   failing() {
     return this.fresh().filter((one) => this.counts(one));
   }
 
   /**
-   * The lines of the list, each with the other problems that it stands for.
+   * The lines of the list, each with the other problems that it stands for, as outputs.js and others print and count them.
    * @returns {Line[]}
    */
   told() {
@@ -238,16 +236,6 @@ class Listing {
    */
   entryOf(line, others = []) {
     return this.entries.of(line, others);
-  }
-
-  /**
-   * The place at which the list has the problem of a race. Called by replay-command.js.
-   * @param {number} run @param {number} race its index
-   */
-  placeOfRace(run, race) {
-    const name = this.runs[run].ofRaces[race]?.problem;
-    const problem = this.problems.find((one) => one.name === name);
-    return problem ? this.entries.placeOf(problem) : '';
   }
 
   /**

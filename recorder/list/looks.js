@@ -115,8 +115,9 @@ class Looks {
     const [type, handler = ''] = slot.split('/');
     const isUnchanged = k === 1 && this.idle.isUnchanged(number, handler);
     const here = k === 0 ? 'here it came before the handler was set' : `here the handler was there${isUnchanged ? UNCHANGED : ''}`;
-    const isIdle = isUnchanged && (look === 'missed' || this.idle.isOfLittle(number, target, type));
-    const facts = { isUnchanged, isIdle, comesAgain: look === 'late' && isAgain(type), link: look === 'late' ? this.linkOf(number, type, isUnchanged) : '' };
+    const isOfLittle = look === 'missed' || this.idle.isOfLittle(number, target, type);
+    const link = look === 'late' ? this.linkOf(number, type, isUnchanged) : '';
+    const facts = { isUnchanged, isIdle: isUnchanged && isOfLittle, isOfLittle, comesAgain: look === 'late' && isAgain(type), link };
     return lookOf(look, `a handler that comes late: ${this.words.action(number)} may find none; ${here}`, detailOf(look, 'slot', type), facts);
   }
 

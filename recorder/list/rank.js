@@ -79,11 +79,11 @@ function reasonOf(look, shares) {
 }
 
 /**
- * Whether more differs than that an event found no handler.
+ * Whether more differs than that an event found no handler. What other races do does not count.
  * @param {Verdict} verdict
  */
 function hasVisible({ differences, words }) {
-  return differences ? differences.some(({ kind }) => kind !== 'event') : !words.includes(NOTHING_ELSE);
+  return differences ? differences.some(({ kind, from }) => kind !== 'event' && !from) : !words.includes(NOTHING_ELSE);
 }
 
 /**
@@ -91,7 +91,8 @@ function hasVisible({ differences, words }) {
  * @returns {{level: number, reason: string, chance?: number}}
  */
 function levelOf(verdict) {
-  const { effect } = verdict;
+  const effect = verdict.kind ? verdict.ownEffect : verdict.effect;
+  if (!effect && verdict.kind === 'others') return { level: LEVELS.same, reason: 'run again in the other order: only another race makes a difference' };
   if (!effect) return { level: LEVELS.same, reason: 'run again in the other order: no visible difference' };
   if (effect === ERROR) return { level: LEVELS.error, reason: 'run again: an uncaught error in one order only' };
   const reason = `run again in the other order: ${effect}`;
@@ -126,7 +127,8 @@ function rankOf(look, verdict, judged = JUDGED) {
  */
 function partOf(look, verdict) {
   const level = verdict?.verdict === 'turned' ? levelOf(ofLook(look, verdict)).level : LEVELS.event;
-  const part = level < LEVELS.event ? look.part : look.isIdle ? IDLE : look.link === 'click' ? LINKS : look.comesAgain ? HARMLESS : look.part;
+  const isIdle = look.isIdle || (look.isOfLittle && !!verdict?.isReader); // it ran in the recording or in a replay, and only read
+  const part = level < LEVELS.event ? look.part : isIdle ? IDLE : look.link === 'click' ? LINKS : look.comesAgain ? HARMLESS : look.part;
   const isUsuallyNone = part === IDLE || part === HARMLESS || part === APART;
   return level === LEVELS.same && !isUsuallyNone ? SAME : part;
 }

@@ -18,7 +18,7 @@ function helpersOfWorld(window) {
     addWindow() {}, notePart: () => false, variableOf: () => null, call() {}, accessAttribute() {}, number: () => 1, isNode: () => false, valueOf: () => UNKNOWN,
   });
   Object.assign(window, { Node: class {}, Storage: class {} });
-  const globals = { read() {}, write() {}, update() {}, count() {}, valueOf: () => MISSING, noteValue() {} };
+  const globals = { lastPieces: [], read() {}, write() {}, update() {}, count() {}, valueOf: () => MISSING, noteValue() {} };
   objects.addWindow(/** @type {import('../page/types').Page} */ (/** @type {unknown} */ ({ window, globals }))); // as far as the helpers use one
   const { prototype } = window.Function;
   const { toString } = prototype;

@@ -13,7 +13,8 @@
 //                of `super`           sp by a name, sk by a key: both read
 //                of `new`             N notes the object that a call makes
 // scopes.js      closure variables    s makes the scope of a call; v reads, z writes, y reads and writes, Y counts
-// wholes.js      whole objects        n their names, e all properties (a spread), i all items (a loop), d what a pattern takes, c what `Object.assign` copies
+// wholes.js      whole objects        n their names, e all properties (a spread), i all items (a loop), d what a pattern takes,
+//                c what `Object.assign` copies, D what `Object.defineProperties` defines
 //                methods              m of arrays, maps and elements; a their first argument, if it is a key
 //                with `--keep`        L a literal, F the first value of a closure variable
 // awaits.js      `await`              as keeps who waits, aw takes the promise, ao the value with which the code goes on
@@ -27,7 +28,7 @@
  */
 const ANSWERS = [
   'ro wo uo p q b B g m n i e d o L made po ai ap aw ao',
-  'k l j J h a c sk',
+  'k l j J h a c D sk',
   'w u U',
   'wh uh Uh wm um fo f fk z F',
   'y Y',

@@ -35,9 +35,9 @@ const LOOKS = {
 /**
  * A pattern as it was found in a race: `seen` says in words what was seen, and `here` which of the two orders the recording had; `rank` is its index in the
  * table. `detail` tells races of a pattern apart that do harm more often than others (list/rank.js). Of a late handler: `isUnchanged`, it ran and changed nothing;
- * `isIdle`, a user then loses little without it (idle.js); `comesAgain`, its event comes again by itself; `link`, its event is the click at a link that leads
- * somewhere, or comes along with it.
- * @typedef {{isUnchanged: boolean, isIdle: boolean, comesAgain: boolean, link: ''|'click'|'part'}} Lateness
+ * `isOfLittle`, a user loses little without it if it changes nothing (idle.js); `isIdle`, both; `comesAgain`, its event comes again by itself; `link`, its event is
+ * the click at a link that leads somewhere, or comes along with it.
+ * @typedef {{isUnchanged: boolean, isIdle: boolean, isOfLittle: boolean, comesAgain: boolean, link: ''|'click'|'part'}} Lateness
  * @typedef {{look: LookKey, rank: number, name: string, part: string, seen: string, here: string, detail: Detail} & Lateness} Look
  */
 /**
@@ -81,11 +81,11 @@ const known = new Map();
  * @param {LookKey} look @param {string} seen @param {Detail} detail @param {Partial<Lateness>} lateness
  * @returns {Look}
  */
-function lookOf(look, seen = '', detail = '', { isUnchanged = false, isIdle = false, comesAgain = false, link = '' } = {}) {
-  const key = `${look} ${detail} ${isUnchanged} ${isIdle} ${comesAgain} ${link} ${seen}`;
+function lookOf(look, seen = '', detail = '', { isUnchanged = false, isIdle = false, isOfLittle = isIdle, comesAgain = false, link = '' } = {}) {
+  const key = `${look} ${detail} ${isUnchanged} ${isIdle} ${isOfLittle} ${comesAgain} ${link} ${seen}`;
   let one = known.get(key);
   const here = /(?:^|[;:] )here (.*)$/.exec(seen)?.[1] || '';
-  if (!one) known.set(key, one = { look, rank: RANKS.indexOf(look), ...LOOKS[look], seen, here, detail, isUnchanged, isIdle, comesAgain, link });
+  if (!one) known.set(key, one = { look, rank: RANKS.indexOf(look), ...LOOKS[look], seen, here, detail, isUnchanged, isIdle, isOfLittle, comesAgain, link });
   return one;
 }
 
