@@ -109,7 +109,8 @@ async function writeRecorded(recorder, options, traceFile) {
 async function recordInto(command, given, traceFile, options, recorder = new Recorder(given, options)) {
   const call = { command, recorder };
   if (!options.isRaw) [traceFile, namesFile(traceFile)].forEach(mustTake);
-  const progress = new Progress(process.stderr, () => `${recorder.intake.actions} actions, ${recorder.openRequests()} open requests`);
+  const openInWords = (/** @type {number} */ count) => `${count} open request${count === 1 ? '' : 's'}`;
+  const progress = new Progress(process.stderr, () => `recording: ${recorder.intake.actions} actions so far, ${openInWords(recorder.openRequests())}`);
   let failed;
   try {
     failed = await runRecorder(call);

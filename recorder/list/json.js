@@ -50,6 +50,7 @@ function plainProblem(listing, problem, index, { failing, lines }, folder) {
     seen: look.seen,
     words,
     summary: listing.summaryOf(problem),
+    recorded: listing.recordedOf(problem),
     fix: listing.fixOf(problem),
     rank: { number: index + 1, reason: listing.rankOf(problem).reason },
     isKnown,

@@ -247,6 +247,14 @@ class Listing {
   }
 
   /**
+   * Which order of a problem the recording had. Called by json.js.
+   * @param {Listed} line
+   */
+  recordedOf(line) {
+    return this.entries.recordedOf(line, []);
+  }
+
+  /**
    * A usual change for a problem. Called by json.js and loads-page.js.
    * @param {Listed} line
    */

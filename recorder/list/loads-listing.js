@@ -41,6 +41,11 @@ class LoadEntries extends Entries {
   }
 
   /** @param {Listed} line */
+  hasBothReplies(line) {
+    return this.saidOf(line).hasBoth;
+  }
+
+  /** @param {Listed} line */
   causeOf(line) {
     return this.saidOf(line).cause;
   }

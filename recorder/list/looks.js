@@ -13,6 +13,7 @@ const { Remaining } = require('./patterns/remaining.js');
 const { isRemoval } = require('./patterns/removals.js');
 const { UNCHANGED, detailOf, isAgain, lookOf } = require('./patterns/table.js');
 const { isTypedOver } = require('./patterns/typed.js');
+const { linkOf } = require('./without-handler.js');
 
 /**
  * @typedef {import('./patterns/table.js').Look} Look
@@ -115,8 +116,20 @@ class Looks {
     const isUnchanged = k === 1 && this.idle.isUnchanged(number, handler);
     const here = k === 0 ? 'here it came before the handler was set' : `here the handler was there${isUnchanged ? UNCHANGED : ''}`;
     const isOfLittle = look === 'missed' || this.idle.isOfLittle(number, target, type);
-    const facts = { isUnchanged, isIdle: isUnchanged && isOfLittle, isOfLittle, comesAgain: look === 'late' && isAgain(type) };
+    const link = look === 'late' ? this.linkOf(number, type, isUnchanged) : '';
+    const facts = { isUnchanged, isIdle: isUnchanged && isOfLittle, isOfLittle, comesAgain: look === 'late' && isAgain(type), link };
     return lookOf(look, `a handler that comes late: ${this.words.action(number)} may find none; ${here}`, detailOf(look, 'slot', type), facts);
+  }
+
+  /**
+   * Whether an event is a click at a link, or comes along with it. A handler that ran and changed nothing might ask before the browser follows the link.
+   * @param {number} number of the action that starts the dispatch @param {string} type @param {boolean} isUnchanged
+   * @returns {Look['link']}
+   */
+  linkOf(number, type, isUnchanged) {
+    const { words: [word, , element] } = this.actions.list[this.actions.list[number].first];
+    const link = word === 'fire' || word === 'inline' ? linkOf(this.words, element, type) : '';
+    return link === 'click' && isUnchanged ? '' : link;
   }
 
   /**

@@ -66,17 +66,21 @@ function knownLines(listing) {
 }
 
 /**
- * How many problems there are, by section.
+ * How many problems there are, in how many entries, and how many entries each section has.
  * @param {Listing} listing
  */
 function countsOf(listing) {
-  const parts = listing.told().map(({ line }) => listing.partOf(line));
+  const told = listing.told();
+  const parts = told.map(({ line }) => listing.partOf(line));
   const counts = [...new Set(parts)].map((part) => `${part}: ${parts.filter((one) => one === part).length}`);
-  return `${parts.length} problem${parts.length === 1 ? '' : 's'}${counts.length ? ` (${counts.join('; ')})` : ''}`;
+  const problems = told.reduce((sum, { others }) => sum + 1 + others.length, 0);
+  const inEntries = problems > told.length ? ` in ${told.length} entr${told.length === 1 ? 'y' : 'ies'}` : '';
+  return `${problems} problem${problems === 1 ? '' : 's'}${inEntries}${counts.length ? ` (${counts.join('; ')})` : ''}`;
 }
 
 /**
- * The last line of all, as `1 problem (may throw: 1)`, which page-races.js and loads.js print with the name of the view: how many problems there are by section, how many are known, what replays found, and whether the recordings lack something.
+ * The last line of all, as `1 problem (may throw: 1)`, which page-races.js and loads.js print with the name of the view: how many problems and entries there are,
+ * how many are known, what replays found, and whether the recordings lack something.
  * @param {Listing} listing
  */
 function totalsOf(listing) {

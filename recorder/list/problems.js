@@ -193,8 +193,8 @@ class Problems {
   }
 
   /**
-   * Whether both sides of a race write a thing that has no parts. Called by race-facts.js.
-   * @param {Race} race
+   * Whether both sides of a race write a thing that has no parts. Called by other-order.js and race-facts.js.
+   * @param {Pick<Race, 'location'|'modes'>} race
    */
   isWhole({ location, modes }) {
     return modes === 'ww' && location.startsWith('var ') && !IN_PARTS.test(location);
@@ -237,7 +237,7 @@ class Problems {
  * Whether two patterns differ at most in the order that the recording had.
  * @param {Look} one @param {Look} other
  */
-const isAlike = (one, other) => one.look === other.look && one.detail === other.detail && one.isUnchanged === other.isUnchanged && one.isIdle === other.isIdle;
+const isAlike = (one, other) => one.look === other.look && one.detail === other.detail && one.isUnchanged === other.isUnchanged && one.isIdle === other.isIdle && one.link === other.link;
 
 /**
  * The first of some races that has the places which most races have: calls of a library come from several places of the page's own code.
