@@ -47,6 +47,8 @@ function takeNatives(window) {
     nodeType: getterOf(Node.prototype, 'nodeType'),
     compareDocumentPosition: Node.prototype.compareDocumentPosition,
     parentNode: getterOf(Node.prototype, 'parentNode'),
+    ownerDocument: getterOf(Node.prototype, 'ownerDocument'),
+    localName: getterOf(window.Element.prototype, 'localName'),
     isConnected: getterOf(Node.prototype, 'isConnected'),
     contentWindow: getterOf(window.HTMLIFrameElement.prototype, 'contentWindow'),
     source: getterOf(window.MessageEvent.prototype, 'source'),

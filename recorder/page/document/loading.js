@@ -215,6 +215,7 @@ class Loading {
     else this.loaded.add(target);
     this.recording.begin(`eload ${dispatch.number} ${number}`, 'begin');
     this.inOrder.begins(dispatch, target, later);
+    sources.missFrame(target);
     this.#noteAwaited(dispatch, number, tree.isParsing() && tree.lastParsed === number && sources.isEmptyFrame(target), later);
     return true;
   }

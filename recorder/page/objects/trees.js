@@ -8,6 +8,7 @@ import { UNKNOWN } from '../log/values.js';
 import { DeepReads } from './deep-reads.js';
 import { CLASSES, DATA, Holder, IS_OF_TREE, READ } from './holders.js';
 import { isAccessor } from './kinds.js';
+import { noteMember } from './members.js';
 import {
   CONTENT, DEEP, PARTS, REPLACES, CHANGES_CONTENT, READS_CONTENT, READS_ATTRIBUTE, READS_ATTRIBUTES, READS_CLASSES, READS_STYLE, isOther, shownBy,
 } from './shown.js';
@@ -85,6 +86,7 @@ class Trees {
   access(node, name, modes, site) {
     if (this.notePart(node, name, site)) return;
     this.madeElements.noteStep(node, name);
+    noteMember(this.recording, node, name, modes, site);
     const shown = typeof name === 'string' && node.nodeType === 1 ? shownBy(node, name) : null;
     if (shown !== null) this.#touchShown(node, /** @type {string} */ (name), shown, modes, site);
     else if (modes === 'r') this.#readOwn(node, name, site);
