@@ -77,6 +77,7 @@ const isOther = (attribute) => OTHERS.has(attribute) || sliceOf(attribute, 0, 2)
 
 /** @param {string} property */
 function attributeOfAria(property) {
+  if (property[0] !== 'a' || property[3] !== 'a') return null; // most names
   if (sliceOf(property, 0, ARIA.length) !== ARIA || property.length === ARIA.length) return null;
   return hasEnd(property, OF_ELEMENTS[0]) || hasEnd(property, OF_ELEMENTS[1]) ? null : `${ARIA}-${lowerCase(sliceOf(property, ARIA.length))}`;
 }
