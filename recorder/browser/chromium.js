@@ -15,6 +15,7 @@ const { Protocol, BrowserFault } = require('./protocol.js');
  * @typedef {{width: number, height: number, ignoresCertificateErrors?: boolean, userDataDir?: string|null, isHeaded?: boolean}} LaunchOptions
  */
 
+/** Which program (executable) of Chromium is started. `../install` says what to do if it is missing. */
 const PROGRAM = process.env.CHROMIUM || '/usr/bin/chromium';
 const FLAGS = [
   '--headless', '--disable-gpu', '--no-first-run', '--disable-background-networking', '--disable-component-update',

@@ -28,6 +28,8 @@ const REPLACEMENT = '\ufffd';
 const tables = new Map();
 
 /**
+ * The text of bytes by the name of an encoding, as a page or a header gives it; null if it has no such name, or if the bytes are none of it and `fatal` is set.
+ * Called by text.js.
  * @param {string} label
  * @param {Buffer} bytes
  * @param {boolean} fatal
@@ -97,6 +99,7 @@ function tableOf(encoding) {
 const isOfTwoBytes = (encoding) => OF_TWO_BYTES.test(encoding);
 
 /**
+ * The bytes of a copy of a text, in the encoding of the original. A character that the encoding lacks becomes a question mark. Called by text.js.
  * @param {Table} table
  * @param {string} text
  */

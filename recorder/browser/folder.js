@@ -1,6 +1,7 @@
 'use strict';
 // A folder as a web site: what a small file server would answer. The browser's requests are answered on their way, so nothing listens. The content type (MIME
-// type) by the ending of a file's name, `index.html` of a folder, status 404. What a folder lacks: responses/unserved.js.
+// type) by the ending of a file's name, `index.html` of a folder, status 404; `--fallback`; a file that is too large is refused. What a folder lacks:
+// responses/unserved.js.
 
 const fs = require('node:fs');
 const os = require('node:os');
@@ -23,6 +24,7 @@ const TYPES = new Map(Object.entries({
   '.woff': 'font/woff', '.woff2': 'font/woff2', '.ttf': 'font/ttf', '.otf': 'font/otf', '.txt': 'text/plain', '.xml': 'text/xml', '.wasm': 'application/wasm',
   '.pdf': 'application/pdf', '.mp4': 'video/mp4', '.webm': 'video/webm', '.mp3': 'audio/mpeg', '.ogg': 'audio/ogg',
 }));
+/** The origin of the pages of a folder: one that the browser takes for secure (service workers, clipboard), and that no server gets a request for. */
 const ORIGIN = 'http://localhost';
 /** In bytes. An answer goes to the browser as one text. */
 const LARGEST_FILE = 256 * 1024 * 1024;

@@ -10,6 +10,7 @@ const { originOf } = require('../common/address.js');
  * @typedef {import('./folder.js').Folder} Folder
  */
 
+/** Names that mean this machine on every machine. Its addresses in networks are added. */
 const LOCAL_NAME = /^(?:(?:[\w-]+\.)*localhost|127(?:\.\d+){3})$/;
 /** In milliseconds. */
 const LONGEST_ANSWER = 2000;

@@ -79,7 +79,10 @@ async function hover(user, step) {
   return DONE;
 }
 
-/** @type {(user: User, step: StepAt) => Promise<Outcome>} */
+/**
+ * The step `type`: a click into the field, then its text, letter by letter (`User.type`). What is typed into a password field is a secret from now on.
+ * @type {(user: User, step: StepAt) => Promise<Outcome>}
+ */
 async function type(user, step) {
   const point = await pointOf(user, step);
   if (!point) return NO_TARGET;
@@ -163,7 +166,10 @@ async function pressKey(user, name) {
   return DONE;
 }
 
-/** @type {(user: User, step: Step) => Promise<Outcome>} */
+/**
+ * The step `scroll` of a flow: by the wheel of a mouse over the element, as a user scrolls, then the time of a smooth scroll.
+ * @type {(user: User, step: Step) => Promise<Outcome>}
+ */
 async function scroll(user, { where, given }) {
   const found = await user.call(scrollBy, where || null, given?.x || 0, given?.y || 0);
   if (!found) return NO_TARGET;

@@ -1,5 +1,5 @@
 'use strict';
-// Web addresses: what of them may be shown, and which server they are of.
+// Web addresses: what of them may be shown (without user and password), and which server they are of.
 
 /** @typedef {{user: string, password: string}} Credentials */
 

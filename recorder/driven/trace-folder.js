@@ -1,11 +1,12 @@
 'use strict';
-// The folder for the recordings of test suites: their names, and which recorders still write into it.
+// The folder for the recordings of test suites (ER_TRACES): the names of the trace files of er_browser, and which recorders still write into it.
 
 const fs = require('node:fs');
 const path = require('node:path');
 const { isAlive } = require('./endpoint.js');
 const { sleep } = require('../common/time.js');
 
+/** The file of a recorder that still writes, with its process number. In milliseconds, and characters of an address in the name of a file. */
 const LOCK = /^\.recording-(\d+)$/;
 const POLL = 50;
 const LONGEST_SLUG = 60;

@@ -56,7 +56,10 @@ function parseAt(text, start, read) {
 /** @param {Node} node */
 const mayBeNoName = (node) => node.type === 'Identifier' && MAY_BE_NO_NAME.has(node.name);
 
-/** @param {import('./syntax/types').MemberExpression} node */
+/**
+ * A member as the browser names it in a message: `a.b`, `a?.b`, `a[k]`; null if the browser names it otherwise.
+ * @param {import('./syntax/types').MemberExpression} node
+ */
 function wordsOfMember({ object, property, computed, optional }) {
   if (computed && mayBeNoName(object)) return null;
   const of = wordsOf(object);

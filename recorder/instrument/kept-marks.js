@@ -207,6 +207,7 @@ class KeptMarks {
   }
 
   /**
+   * Keeps marks in memory; if they have too many characters, those that were not used for the longest time go. A file of the cache may still have them.
    * @param {string} key
    * @param {Kept} kept
    */

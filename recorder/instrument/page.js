@@ -49,6 +49,7 @@ const { readTags, attributeOf, SVG, MATH } = require('./tags.js');
 const ADDRESSES = {
   'href': ['a', 'area'], 'xlink:href': ['a'], 'src': ['iframe', 'frame'], 'action': ['form'], 'formaction': ['button', 'input'],
 };
+/** Characters of an address that tell elements apart; page/document/elements.js takes as many. */
 const LONGEST_SOURCE = 200;
 
 /** @param {Tag} tag */
@@ -118,6 +119,7 @@ class PageRewriter {
   }
 
   /**
+   * What an attribute becomes in the copy: no `integrity`, as the script has another text; marks in handlers, `javascript:` addresses and `srcdoc`.
    * @param {Tag} tag
    * @param {Attribute} attribute
    */

@@ -70,7 +70,10 @@ class SvgText {
     }
   }
 
-  /** @param {number} place */
+  /**
+   * The piece of the source in which a place of the script is: by halves, as pieces are in order.
+   * @param {number} place
+   */
   pieceAt(place) {
     let [low, high] = [0, this.pieces.length - 1];
     while (low < high) {

@@ -104,6 +104,7 @@ function whereOf(said) {
 // ---- of the Recorder panel
 
 /**
+ * One part of a selector as the browser's recorder of user flows writes it (`aria/Name[role="button"]`, `text/..`, `xpath/..`, `pierce/..`, else CSS).
  * @param {string} said
  * @returns {Part}
  */

@@ -77,6 +77,8 @@ class NamedRun {
   }
 
   /**
+   * An element's name in any run: its tag, id, field, source, document and place, and who made it; with a count, if several have that. Elements that stand for
+   * an event have none.
    * @param {string[]} words
    * @param {number} line
    * @param {number} action

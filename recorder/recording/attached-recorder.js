@@ -9,6 +9,7 @@ const { STATUS } = require('../common/status.js');
 const { sleep } = require('../common/time.js');
 const { Session, RecordingFault } = require('./session.js');
 
+/** In milliseconds. */
 const POLL = 50;
 /** Is in the tab while a recorder is attached to it: true once it waits for the next page, so a driver can load one. */
 const MARK = '__erAttached';

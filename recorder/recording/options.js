@@ -91,11 +91,12 @@ const { checkOptions } = require('./check-options.js');
 /** @typedef {RecordingOptions & ListOptions & ReplayOptions} CommandOptions */
 /** @typedef {import('../options/parse.js').OptionTable<CommandOptions>} Table */
 
+/** More are mostly a slip: each run opens a browser. */
 const MOST_RUNS = 100;
 const MOST_JOBS = 100;
 
 /**
- * The options of a call without arguments.
+ * The options of a call without arguments (defaults): `time` is in seconds, `--time` limits how long a page is recorded at most.
  * @returns {CommandOptions}
  */
 function defaults() {
@@ -252,6 +253,7 @@ function hostOf(address) {
 }
 
 /**
+ * Reads arguments by a table, keeps their secrets out of all output from here on, and refuses options that contradict each other.
  * @param {string[]} args
  * @param {Table} table
  * @returns {{options: CommandOptions, positionals: string[], isHelp: boolean}}

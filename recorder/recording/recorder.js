@@ -18,6 +18,7 @@ const { Rest } = require('./rest.js');
 const { signIn } = require('./signed-in.js');
 const { Session, RecordingFault, GRACE } = require('./session.js');
 
+/** In milliseconds. */
 const POLL = 50;
 const LOAD_TIME = `(() => {
   const [navigation] = performance.getEntriesByType('navigation');

@@ -25,6 +25,7 @@ const { placeNotes } = require('./spelling/notes.js');
 
 /** @typedef {import('./intake.js').Entry & {isKept?: boolean, isTyped?: boolean, why?: string}} SpelledEntry a record with what is known of it (trace/accesses.js) */
 
+/** Of the trace format (docs/format.md, "Versions"). */
 const NEWEST_VERSION = 3;
 
 /**

@@ -131,7 +131,10 @@ class Shown {
     return true;
   }
 
-  /** @param {number} race */
+  /**
+   * Puts a race into the model, as long as there is room for it. Whether it is there then.
+   * @param {number} race
+   */
   addRace(race) {
     if (this.races.has(race)) return true;
     if (this.model.left <= 0) return false;

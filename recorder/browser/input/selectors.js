@@ -1,6 +1,6 @@
 'use strict';
-// Functions that run in the page: which element a selector means. They are sent together, as texts (`IN_PAGE`), so each uses only names of this file that
-// are sent too. By CSS, by visible text, by role and accessible name, by XPath.
+// Functions that run in the page: which element a selector means. They are sent together, as texts (`IN_PAGE`), so each uses only names of this file that are
+// sent too. By CSS, by visible text, by role and accessible name, by XPath; in shadow roots too.
 /* eslint-env browser */
 
 /**

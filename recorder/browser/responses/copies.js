@@ -15,12 +15,15 @@ const { valueOf } = require('./paused.js');
  * @typedef {import('./paused.js').Texts} Texts
  */
 
+/** By the content type of a response: what becomes an instrumented copy. */
 const PAGE_TYPE = /^text\/html\b/i;
 const XML_PAGE_TYPE = /^(application\/xhtml\+xml|image\/svg\+xml|(text|application)\/xml)\b/i;
 const SCRIPT_TYPE = /javascript|ecmascript|^text\/plain\b|^application\/octet-stream\b/i;
+/** Headers that are about the bytes of the original. */
 const DROPPED_HEADERS = /^(content-length|content-encoding|transfer-encoding|content-type|sourcemap|x-sourcemap)$/i;
 const POLICY_HEADER = /^content-security-policy(-report-only)?$/i;
 const TRUSTED_TYPES = 'trusted types of content policies';
+/** Characters of a reason in a line "not recorded". */
 const LONGEST_REASON = 100;
 
 /** @param {number|undefined} status */

@@ -36,7 +36,10 @@ class NetworkLog {
     this.asked = [];
   }
 
-  /** @param {import('../tab.js').Tab} tab */
+  /**
+   * Listens to what the browser says of requests. The body of a `fetch` is waited for as long as parts of it come.
+   * @param {import('../tab.js').Tab} tab
+   */
   async start(tab) {
     tab.on('Network.requestWillBeSent', (params) => this.note(/** @type {Request} */ (params)));
     tab.on('Network.loadingFinished', ({ requestId }) => this.close(requestId));

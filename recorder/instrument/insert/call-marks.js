@@ -185,6 +185,8 @@ class CallMarks extends ValueMarks {
   }
 
   /**
+   * `Object.assign(target, ..sources)`: each source that is a value is read whole, each of its properties is a write of the target. A target that is no simple
+   * name is not repeated in the code.
    * @param {Argument} target
    * @param {Argument[]} sources
    * @param {Scope} scope

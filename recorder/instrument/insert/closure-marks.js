@@ -159,6 +159,7 @@ class ClosureMarks extends Marks {
     return this.comesLate(owner.closure, init) && this.variables.isRecorded(owner, name);
   }
 
+  /** A declaration with a value: a write of each captured variable that is reported, after its value is there. */
   visitInitializer(/** @type {Initialized} */ { id, init }, /** @type {Scope} */ scope, /** @type {DeclarationKind} */ kind) {
     const names = namesOfPattern(id);
     const reported = names.filter((name) => this.isReported({ name, start: id.start }, init, scope, kind));
@@ -207,6 +208,7 @@ class ClosureMarks extends Marks {
   }
 
   /**
+   * A captured variable is assigned: the write is reported with the new value. `a ||= b` reads it first, and writes it only if `b` runs.
    * @param {AssignmentExpression} node
    * @param {Identifier} left
    * @param {Scope} scope

@@ -56,6 +56,7 @@ function namesOfDeclaration(declaration) {
 }
 
 /**
+ * What `export {..}` and `export ..` add to the exports of a module: its own variables, and names that it only passes on from another module.
  * @param {import('./types').ExportNamedDeclaration} statement
  * @param {Map<string, Imported>} imports
  * @param {Exported} exported gets what it exports

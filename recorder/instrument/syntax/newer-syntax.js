@@ -132,6 +132,7 @@ const newerSyntax = (Base) => class extends Base {
   }
 
   /**
+   * acorn calls this for a declaration. `using` was read as `let` before, so that acorn takes it, and becomes what it is.
    * @param {AcornNode} node
    * @param {boolean} isFor
    * @param {string} kind

@@ -6,6 +6,7 @@ import { spellName } from '../log/spelling.js';
 import { MISSING } from '../log/values.js';
 import { IS_COUNTED, READ, WRITE } from '../objects/holders.js';
 
+/** Room for so many sites at first; the list grows. */
 const FIRST_SITES = 4096;
 /** A part of the cells has 64 sites. */
 const BITS_OF_PART = 6;
@@ -144,19 +145,13 @@ class Globals {
     if (variable && isOnlyCounted) variable.flags |= IS_COUNTED;
   }
 
-  /**
-   * @param {string} name
-   * @param {number} site
-   */
+  /** @param {string} name @param {number} site */
   #touchRead(name, site) {
     if (this.holder) this.recording.objects?.variables.readAs(this.holder, this.holder.variable(name), site, this.#valueBefore(name));
     else this.#touch(name, READ, site);
   }
 
-  /**
-   * @param {string} name
-   * @param {number} site
-   */
+  /** @param {string} name @param {number} site */
   #touchWritten(name, site) {
     if (this.holder) this.stage(name, site);
     else this.#touch(name, WRITE, site);

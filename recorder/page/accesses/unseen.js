@@ -116,6 +116,7 @@ class Unseen {
   }
 
   /**
+   * Compares a global with its last known value: if it changed while code without marks could run, that code has written it.
    * @param {string} name
    * @param {unknown} value
    */

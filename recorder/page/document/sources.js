@@ -136,6 +136,7 @@ class Sources {
   }
 
   /**
+   * The number of the page that a frame shows: the one of the running load, or of the frame's first, empty page, or a new one.
    * @param {Element} frame
    * @param {Load|undefined} load
    * @param {boolean} isPassing

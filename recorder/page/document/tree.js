@@ -95,6 +95,7 @@ class Tree {
   }
 
   /**
+   * Takes changes that the observer has, in the action that runs: by the parser, or by a script.
    * @param {MutationRecord[]} records
    * @param {'script'|'parser'} by
    */
@@ -121,10 +122,7 @@ class Tree {
     each(records, (record) => this.#handleOne(record, 'browser'));
   }
 
-  /**
-   * @param {MutationRecord} record
-   * @param {Maker} maker
-   */
+  /** @param {MutationRecord} record @param {Maker} maker */
   #handleOne(record, maker) {
     if (this.#isOfHold(record)) return;
     if (record.type === 'childList') this.#handleChildren(record, maker);
@@ -134,6 +132,7 @@ class Tree {
   }
 
   /**
+   * Nodes came and went. Of a shadow tree none is removed, as nothing looks its elements up from outside.
    * @param {MutationRecord} record
    * @param {Maker} maker
    */
@@ -151,6 +150,7 @@ class Tree {
   }
 
   /**
+   * An attribute that others read by other ways: an id (lookups), `disabled` (what a user reaches), `open` (an event), classes and styles (motions).
    * @param {MutationRecord} record
    * @param {Maker} maker
    */
@@ -179,10 +179,7 @@ class Tree {
     if (objects) objects.trees.noteChange(record);
   }
 
-  /**
-   * @param {string|null} id
-   * @param {Maker} maker
-   */
+  /** @param {string|null} id @param {Maker} maker */
   #writeId(id, maker) {
     if (!id) return;
     const isParser = maker === 'parser';
@@ -198,20 +195,14 @@ class Tree {
 
   // ---- elements that come and go
 
-  /**
-   * @param {Node} node
-   * @param {Maker} maker
-   */
+  /** @param {Node} node @param {Maker} maker */
   #removeTree(node, maker) {
     if (!isElement(node)) return;
     this.#writeId(this.elements.idOf(node), maker);
     each(apply(this.natives.querySelectorAll, node, ['[id]']), (element) => this.#writeId(this.elements.idOf(element), maker));
   }
 
-  /**
-   * @param {Node} node
-   * @param {Maker} maker
-   */
+  /** @param {Node} node @param {Maker} maker */
   #addTree(node, maker) {
     if (!isElement(node)) return;
     this.add(node, maker);

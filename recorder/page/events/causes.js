@@ -177,6 +177,7 @@ class Causes {
   }
 
   /**
+   * The browser queues `select` and `selectionchange` only if the selection of a field changes.
    * @template T
    * @param {HTMLInputElement} field
    * @param {() => T} call
@@ -191,6 +192,7 @@ class Causes {
   }
 
   /**
+   * The browser queues `selectionchange` only if an end of the selection moves.
    * @template T
    * @param {Selection} selection
    * @param {() => T} call

@@ -152,6 +152,7 @@ class Handlers {
   }
 
   /**
+   * The registration of a listener at a target: the former one, if the listener was registered there before, so that its slot stays the same.
    * @param {EventTarget} target
    * @param {string} type
    * @param {Listener} listener

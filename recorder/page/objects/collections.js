@@ -1,5 +1,5 @@
 // Arrays, maps and sets: what their items, keys and methods touch; and whole objects, as a spread reads them. `push`, `splice`, `sort`, `length`, `Map.get`,
-// `Set.add`: which keys and items each of these methods reads or writes.
+// `Set.add`: which keys and items each of these methods reads or writes. An index (`a[3]`) is a property: properties.js.
 
 import { Array, Map, Object, Set, apply, hasOwn } from '../core/taken.js';
 import { CLASSES, ITEMS, LEFT_OUT, LIST, MAP, NAMES, OTHER_ITEMS, PLAIN, READ, SET, SINGLE_ITEMS, STORAGE, TREE, WRITE } from './holders.js';
@@ -77,6 +77,8 @@ class Collections {
   }
 
   /**
+   * A method of an array was called: `push` writes its items without reading them; those that move items read and write all; others read all. A method of its
+   * own is only read.
    * @param {import('../types').Holder} holder
    * @param {string} name
    * @param {number} site

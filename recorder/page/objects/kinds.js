@@ -5,6 +5,7 @@ import { sliceOf } from '../core/strings.js';
 import { Object, Symbol, WeakMap, apply, construct, functionText, getOwnPropertyDescriptor, getPrototypeOf, isArray, isView } from '../core/taken.js';
 import { BUILTIN, BYTES, Holder, LEFT_OUT, LIST, MAP, PLAIN, SET, STORAGE, TREE } from './holders.js';
 
+/** So many prototypes are looked at. A page can make a longer chain, so that each access would take long. */
 const LONGEST_PROTOTYPE_CHAIN = 12;
 const NATIVE_TEXT = ' [native code] }';
 

@@ -8,6 +8,7 @@ import { IS_OF_TREE, LEFT_OUT, LIST, SCOPE, TREE, WINDOW } from './holders.js';
 
 /** The object of an element has the same number as its field. */
 const { FIRST_FIELD, FIRST_OBJECT } = settings.numbers;
+/** Characters of a name that the page gave (`displayName`, a key): it is shown to a reader. */
 const LONGEST_TOLD = 80;
 
 /** One for each recording: `recording.objects.objectNames`. */

@@ -64,6 +64,7 @@ class Patterns {
   }
 
   /**
+   * What an object pattern takes: names and inner shapes come in pairs; `...` reads all.
    * @param {object} object
    * @param {number} site
    * @param {Shape} shape

@@ -6,6 +6,7 @@ import { replaceMethod, showAs } from '../core/replacing.js';
 import { Set, WeakSet, apply, getOwnPropertyDescriptor, getPrototypeOf } from '../core/taken.js';
 import { placeOnStack } from '../log/stack.js';
 
+/** The library whose `ready` is known. */
 const LIBRARY = 'jQuery';
 /** The names by which code has it. */
 const NAMES_OF_LIBRARY = new Set([LIBRARY, '$']);

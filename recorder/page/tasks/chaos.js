@@ -157,7 +157,10 @@ class Chaos {
     });
   }
 
-  /** @param {number} time */
+  /**
+   * Whether all callbacks of this animation frame wait for the next one: one chance for a frame, and at most MOST_FRAMES in a row.
+   * @param {number} time
+   */
   #skipsFrame(time) {
     const { frame } = this;
     if (time !== frame.time) {

@@ -30,6 +30,7 @@ class EndedRequests {
     this.ended = [];
   }
 
+  /** Hooks `abort`: what was open before it and is aborted after it has ended by it. */
   start() {
     const endedRequests = this;
     replaceMethod(this.page.window.AbortController.prototype, 'abort', (native) => function abort() {

@@ -84,7 +84,10 @@ class Promises {
     });
   }
 
-  /** @param {import('../types').PageWindow} window */
+  /**
+   * Hooks `queueMicrotask`: the job belongs to the action that requested it.
+   * @param {import('../types').PageWindow} window
+   */
   #replaceQueueing(window) {
     const promises = this;
     const { jobs } = this.page;
@@ -136,6 +139,8 @@ class Promises {
   }
 
   /**
+   * A promise of several gets the moments at which its members were settled. One that is decided by a single member (`any` fulfilled, `all` rejected) comes
+   * only after that one.
    * @param {Several} made
    * @param {boolean} isFulfilled
    * @param {(Moment|null)[]} before

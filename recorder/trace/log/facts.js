@@ -12,6 +12,7 @@ const { withoutCommands } = require('../../common/shown.js');
  * @typedef {(value: unknown) => unknown} Reader gives the value as it is taken, or undefined if it is none
  */
 
+/** Limits of what a page can write: other facts are not taken. The number is the largest of the format. */
 const MOST_NUMBER = 2 ** 32 - 1;
 const LONGEST_TEXT = 300;
 const LONGEST_ADDRESS = 4000;

@@ -109,6 +109,7 @@ function inWords(found) {
   return `${problems}: ${counted(new Set(groups.map(({ number }) => number)).size, 'group')} with ${counted(races, 'race')}`;
 }
 
+/** Draws the list again: at the start, and when the reader changes the filter or the order. */
 function render() {
   const found = filtered();
   const order = control('order').value;

@@ -3,6 +3,7 @@
 import { make } from './elements.js';
 import { model, races, wordsOf, originsAt } from './model.js';
 
+/** Levels that are drawn at once, and actions: a longer origin is no help to a reader. */
 const DEEPEST = 6;
 const MOST_ORIGINS = 400;
 
@@ -77,7 +78,10 @@ function stepsBetween(from, to) {
   return steps;
 }
 
-/** @param {{action: number, rule: number}[]} steps */
+/**
+ * The steps of a path from one action to the other, each with its rule in words.
+ * @param {{action: number, rule: number}[]} steps
+ */
 function stepList(steps) {
   const list = make('ol', { class: 'steps' });
   for (const { action, rule } of steps) {

@@ -4,6 +4,7 @@ import { make, makeSvg } from './elements.js';
 import { model, originsAt, wordsOf } from './model.js';
 import { originList, originsOf, pairBox } from './origins.js';
 
+/** In pixels of the picture, which grows with its box. */
 const LANE_HEIGHT = 26;
 const LANE_LEFT = 120;
 const PICTURE_WIDTH = 1000;

@@ -14,7 +14,10 @@ import { sourceBox } from './source.js';
  * @typedef {import('./model.js').ShownProblem} ShownProblem
  */
 
-/** @param {Race} race */
+/**
+ * The box of one race: both places in the source, what a replay found, the lanes, and why nothing orders the two. Made when the reader opens it.
+ * @param {Race} race
+ */
 function raceBox(race) {
   const box = make('article', { class: 'race' });
   const sources = make('div', { class: 'columns' });

@@ -91,7 +91,10 @@ const isHarmless = (line) => verdictOf(replayOfLine(line)) === 'same';
 
 // ---- the box of a race
 
-/** @param {Difference[]} differences */
+/**
+ * The differences that a replay found, in both orders.
+ * @param {Difference[]} differences
+ */
 function differenceTable(differences) {
   const table = make('table', { class: 'differences' }, make('tr', {}, ...['What', 'In the recorded order', 'In the other order'].map((word) => make('th', {}, word))));
   for (const { kind, subject, recorded, other } of differences) {
