@@ -47,7 +47,7 @@ class SuiteLoad {
   }
 
   /**
-   * What differs between the end of this load and that of another one.
+   * What differs between the end of this load and that of another one. Called by suite-replays.js.
    * @param {SuiteLoad} other
    */
   differencesTo(other) {

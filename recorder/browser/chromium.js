@@ -165,7 +165,7 @@ class Chromium extends Protocol {
     });
   }
 
-  /** The first answer of the browser. */
+  /** The first answer of the browser. Called by driven/flow-recorder.js and recording/recorder.js. */
   hasStarted() {
     return this.send('Browser.getVersion', {}, undefined, LONGEST_START);
   }

@@ -135,7 +135,7 @@ class WebSocketClient extends EventEmitter {
   }
 
   /**
-   * Closes the connection without an answer.
+   * Closes the connection without an answer. Called by attached.js.
    * @param {string} why
    */
   shut(why) {

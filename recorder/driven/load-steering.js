@@ -113,7 +113,7 @@ class LoadSteering extends RunSteering {
   // ---- its course
 
   /**
-   * Holds a response back, if it is the one.
+   * Holds a response back, if it is the one. Called by browser-recorder.js.
    * @param {import('../browser/responses/paused.js').Paused} event
    */
   async holdMet(event) {

@@ -87,7 +87,7 @@ class Load {
   }
 
   /**
-   * Takes an error that nothing in the page has caught.
+   * Takes an error that nothing in the page has caught. Called by driven-tab.js.
    * @param {import('./driven-tab.js').ExceptionDetails} details
    */
   takeError(details) {

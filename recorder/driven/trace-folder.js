@@ -35,18 +35,18 @@ class TraceFolder {
     this.lockFile = path.join(this.folder, `.recording-${process.pid}`);
   }
 
-  /** Says that a recorder writes into the folder. */
+  /** Says that a recorder writes into the folder. Called by main.js. */
   lock() {
     fs.writeFileSync(this.lockFile, '');
   }
 
-  /** Says that this recorder writes no more. */
+  /** Says that this recorder writes no more. Called by main.js. */
   unlock() {
     fs.rmSync(this.lockFile, { force: true });
   }
 
   /**
-   * The file for the trace of a load.
+   * The file for the trace of a load. Called by browser-recorder.js.
    * @param {number} number
    * @param {string} address
    */

@@ -64,7 +64,7 @@ class EditedText {
   }
 
   /**
-   * The original offset of a line and column that the browser reports of the changed text.
+   * The original offset of a line and column that the browser reports of the changed text. Called by texts/sources.js.
    * @param {number} line
    * @param {number} column
    */
@@ -92,7 +92,7 @@ class EditedText {
   }
 
   /**
-   * Where the browser reports an original place in the changed text: its line, and the first and the last column.
+   * Where the browser reports an original place in the changed text: its line, and the first and the last column. Called by driven/asked.js.
    * @param {number} line
    * @param {number} column
    */
@@ -110,7 +110,7 @@ class EditedText {
   }
 
   /**
-   * The original line and column of a line and column that the browser reports of the changed text.
+   * The original line and column of a line and column that the browser reports of the changed text. Called by driven/asked.js and texts/sources.js.
    * @param {number} line
    * @param {number} column
    */

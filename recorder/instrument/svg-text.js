@@ -85,7 +85,7 @@ class SvgText {
   }
 
   /**
-   * The offset in the page for an offset in the code.
+   * The offset in the page for an offset in the code. Called by page.js.
    * @param {number} place
    */
   placeInPage(place) {
@@ -94,7 +94,7 @@ class SvgText {
   }
 
   /**
-   * The edit of the page for one of the code.
+   * The edit of the page for one of the code. Called by page.js.
    * @param {{start: number, end: number, insert: string}} edit
    */
   editOfPage({ start, end, insert }) {

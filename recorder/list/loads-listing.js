@@ -1,5 +1,6 @@
 'use strict';
-// The list over many page loads of a test suite: each problem once, with the loads in which it was seen. It merges all loads.
+// The list over many page loads of a test suite: each problem once, with the loads in which it was seen. It merges all loads: a problem of two tests is one
+// line.
 
 const { Entries } = require('./entries.js');
 const { Listing } = require('./listing.js');

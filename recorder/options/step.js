@@ -1,5 +1,5 @@
 'use strict';
-// The steps of --do, as `click:SELECTOR`: read and checked before anything is recorded.
+// The steps of --do, as `click:SELECTOR`: read and checked before anything is recorded. A wrong step is a UsageFault, which prints all forms.
 
 const { UsageFault } = require('./parse.js');
 const { whereOf } = require('./selector.js');

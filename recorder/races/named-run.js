@@ -115,7 +115,7 @@ class NamedRun {
 
   /**
    * The place of a line, or of a thing, in a name: if it came by way of a library that is a part of a file, that of the library. Names are older than the
-   * search for such libraries, and stay.
+   * search for such libraries, and stay. Called by list/lasting.js and keys.js.
    * @param {number} line
    * @param {{place?: Place, way?: Place}} facts
    */

@@ -148,12 +148,12 @@ class Recorder extends Session {
     else if (this.browser instanceof Chromium) await this.browser.close();
   }
 
-  /** The browser, if it stayed after the recording. */
+  /** The browser, if it stayed after the recording. Called by replay-race.js. */
   runningBrowser() {
     return this.browser instanceof Chromium ? this.browser : null;
   }
 
-  /** Closes the browser if it stayed after the recording. */
+  /** Closes the browser if it stayed after the recording. Called by page-races.js and replay-race.js. */
   async closeKeptBrowser() {
     await this.runningBrowser()?.close();
   }

@@ -155,7 +155,7 @@ class Session {
   }
 
   /**
-   * Runs a recording to its end. Fails with a RecordingFault; what was recorded until then is in the intake.
+   * Runs a recording to its end. Fails with a RecordingFault; what was recorded until then is in the intake. Called by attached-recorder.js and recorder.js.
    * @param {() => Promise<void>} work
    * @param {() => Promise<void>} close
    */
@@ -172,7 +172,7 @@ class Session {
   }
 
   /**
-   * A page that never ends its work answers nothing: what was recorded until its time is over is the recording.
+   * A page that never ends its work answers nothing: what was recorded until its time is over is the recording. Called by attached-recorder.js and recorder.js.
    * @param {Promise<void>} work
    */
   async withinTime(work) {

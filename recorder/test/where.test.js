@@ -40,25 +40,17 @@ for (const [words, file] of Object.entries(QUESTIONS)) {
   });
 }
 
-/**
- * The files to which the lines for some words lead, in this order.
- * @param {string[]} lines
- */
-function filesOf(lines) {
-  const found = lines.map((line) => (/ \| best recorder\/([^,]*)/.exec(line) || /^README.*? \| .*?recorder\/([\w./-]+)/.exec(line) || /^recorder\/([^:]*)/.exec(line) || [])[1]);
-  return [...new Set(found.filter(Boolean))];
-}
-
 test('a question that was asked before leads to its file at once', () => {
   for (const { question, files } of CORPUS) {
     for (const file of files) assert.ok(fs.existsSync(path.join(__dirname, '..', file)), file);
-    assert.ok(files.includes(filesOf(answer(question))[0]), `${question}: ${filesOf(answer(question)).slice(0, 3)}`);
+    const [{ module: { name } }] = rank(question.split(' '), INDEX).modules;
+    assert.ok(files.includes(name), `${question}: ${name}`);
   }
 });
 
 /** So many questions would lead to their file at once, or within three files, if they had not been asked before. */
-const SHARE_FIRST = 0.78;
-const SHARE_OF_THREE = 0.9;
+const SHARE_FIRST = 0.74;
+const SHARE_OF_THREE = 0.88;
 
 test('questions as newcomers ask them lead to the file that has the answer, also if they are new', () => {
   const ranks = CORPUS.map(({ question, files }) => {
@@ -66,7 +58,7 @@ test('questions as newcomers ask them lead to the file that has the answer, also
     return { question, at: modules.slice(0, PRINTED).findIndex(({ module: { name } }) => files.includes(name)) };
   });
   const missed = ranks.filter(({ at }) => at).map(({ question, at }) => `${at + 1 || '-'} ${question}`).join('\n');
-  assert.ok(CORPUS.length >= 400);
+  assert.ok(CORPUS.length >= 550);
   assert.ok(ranks.filter(({ at }) => at === 0).length >= SHARE_FIRST * CORPUS.length, missed);
   assert.ok(ranks.filter(({ at }) => at >= 0 && at < 3).length >= SHARE_OF_THREE * CORPUS.length, missed);
 });

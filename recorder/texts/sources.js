@@ -1,5 +1,6 @@
 'use strict';
-// The texts of the pages and scripts of one run: their copies, which the browser gets, and the place in the text for a position in its copy.
+// The texts of the pages and scripts of one run: their copies, which the browser gets, and the place in the text for a position in its copy. Which globals are
+// built in, and get no mark: `builtins`.
 
 const { HANDLER_NAMES } = require('../common/handler-names.js');
 const { keptMarks } = require('../instrument/kept-marks.js');

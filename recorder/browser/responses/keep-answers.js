@@ -65,7 +65,8 @@ class KeepAnswers {
   }
 
   /**
-   * The bytes of a page or a script, before it gets its marks (`passResponse` in copies.js). `takeBody` then finds nothing that is awaited.
+   * The bytes of a page or a script, before it gets its marks (`passResponse` in copies.js). `takeBody` then finds nothing that is awaited. Called by
+   * copies.js.
    * @param {Paused} event
    * @param {Buffer} body
    */

@@ -1,5 +1,6 @@
 'use strict';
-// What the page requests, and which requests have not ended. Requests in flight, and long polls, which are not waited for.
+// What the page requests, and which requests have not ended. Requests in flight, and long polls, which are not waited for. The icon of a page (favicon) does
+// not count.
 
 const { requestText } = require('../changing.js');
 const { isHold } = require('./hold-scripts.js');

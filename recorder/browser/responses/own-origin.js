@@ -46,7 +46,8 @@ class OwnOrigin {
   }
 
   /**
-   * What of a request changes as it goes on: the user's headers in place of its own of these names; another origin, as after a redirect, gets none.
+   * What of a request changes as it goes on: the user's headers in place of its own of these names; another origin, as after a redirect, gets none. Called by
+   * browser/responses.js and driven/flow-recorder.js.
    * @param {Paused} event
    * @returns {{headers?: import('./paused.js').Header[]}}
    */
@@ -70,7 +71,7 @@ class OwnOrigin {
   }
 
   /**
-   * Answers a server that wants a user's name. Without an answer the request would stay open.
+   * Answers a server that wants a user's name. Without an answer the request would stay open. Called by browser/responses.js and driven/flow-recorder.js.
    * @param {Challenge} challenge
    */
   async answerChallenge({ requestId, request, authChallenge }) {

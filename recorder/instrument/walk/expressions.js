@@ -42,7 +42,7 @@ class ExpressionWalker {
   }
 
   /**
-   * Visits the nodes of a list, in which some can be missing.
+   * Visits the nodes of a list, in which some can be missing. Called by instrument/insert/call-marks.js, instrument/insert/member-marks.js and walker.js.
    * @param {readonly (Node|null|undefined)[]} nodes
    * @param {Scope} scope
    */
@@ -183,7 +183,8 @@ class ExpressionWalker {
   }
 
   /**
-   * A pattern that is assigned to: its names stay as they are; defaults, computed keys and members are visited.
+   * A pattern that is assigned to: its names stay as they are; defaults, computed keys and members are visited. Called by instrument/insert/marks.js,
+   * instrument/insert/value-marks.js and walker.js.
    * @param {Pattern|null} pattern
    * @param {Scope} scope
    */

@@ -153,7 +153,8 @@ class Loading {
   }
 
   /**
-   * What the end of parsing is after: the last step, and the run of a script that stands last. Nothing while the parser goes on.
+   * What the end of parsing is after: the last step, and the run of a script that stands last. Nothing while the parser goes on. Called by
+   * page/scripts/ready.js.
    * @returns {import('../types').Moment[]}
    */
   endOfParsing() {
@@ -249,7 +250,8 @@ class Loading {
   // ---- the end of a page
 
   /**
-   * The events of a page that is left come in one order: each comes after the one before. A call that leaves it dispatches the first one itself.
+   * The events of a page that is left come in one order: each comes after the one before. A call that leaves it dispatches the first one itself. Called by
+   * page/events/dispatches.js.
    * @param {EventDispatch} dispatch
    */
   orderLeaving(dispatch) {

@@ -102,7 +102,7 @@ class Sources {
   }
 
   /**
-   * Whether a frame has no page but the empty one, which loads while the parser inserts the frame.
+   * Whether a frame has no page but the empty one, which loads while the parser inserts the frame. Called by loading.js.
    * @param {Element} element
    */
   isEmptyFrame(element) {
