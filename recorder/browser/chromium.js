@@ -140,6 +140,7 @@ class Chromium extends Protocol {
     return path.join(this.folder, 'said');
   }
 
+  /** Why the browser ended, by what it wrote on standard error. */
   whyEnded() {
     const text = fs.existsSync(this.logFile()) ? fs.readFileSync(this.logFile(), 'utf8') : '';
     return text.includes('No usable sandbox') ? NO_SANDBOX : 'the browser ended';

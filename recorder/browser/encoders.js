@@ -65,7 +65,10 @@ function addSequences(table, encoding, sequences) {
  */
 const range = (first, last) => Array.from({ length: last - first + 1 }, (_, k) => first + k);
 
-/** @param {string} encoding */
+/**
+ * The characters that an encoding has by one byte each.
+ * @param {string} encoding
+ */
 function tableOfBytes(encoding) {
   /** @type {Table} */
   const table = new Map([['\n', [NEWLINE]]]);
@@ -73,7 +76,10 @@ function tableOfBytes(encoding) {
   return table;
 }
 
-/** @param {string} encoding */
+/**
+ * And those of two bytes; of three in EUC-JP.
+ * @param {string} encoding
+ */
 function tableOfTwoBytes(encoding) {
   const table = tableOfBytes(encoding);
   for (const lead of range(FIRST_LEAD, LAST_LEAD)) addSequences(table, encoding, range(FIRST_TRAIL, LAST_LEAD).map((trail) => [lead, trail]));

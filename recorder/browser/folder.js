@@ -61,7 +61,10 @@ function readRegular(file) {
   }
 }
 
-/** @param {string} file */
+/**
+ * Where a file is, links followed.
+ * @param {string} file
+ */
 function realPath(file) {
   try {
     return fs.realpathSync(file);
@@ -143,6 +146,7 @@ class Folder {
   }
 
   /**
+   * The file of a path of an address; it need not be there.
    * @param {string} pathname
    * @returns {string|null} null if it is no path of a file, as with an escaped slash
    */
@@ -180,7 +184,10 @@ const fileAddress = (address) => address.replace(OF_INDEX, '$1index.html');
 
 // ---- what a user's address means
 
-/** @param {string} folder */
+/**
+ * Whether a folder has files that no page should read: a home, its downloads, /tmp. Such a folder is served with a warning.
+ * @param {string} folder
+ */
 function isPersonal(folder) {
   const real = realPath(folder);
   const homes = [os.homedir(), process.env.HOME || ''].filter(Boolean);
@@ -197,6 +204,7 @@ const warningOf = (folder) => (isPersonal(folder)
   : null);
 
 /**
+ * The file that a user means by a page: a `file:` address, a path, or a path with a query or a fragment, if no file has the whole name.
  * @param {string} given
  * @returns {{file: string, search: string}}
  */

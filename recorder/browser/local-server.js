@@ -18,7 +18,10 @@ const LONGEST_ANSWER = 2000;
 const LARGEST_ANSWER = 128 * 1024 * 1024;
 const MOST_REDIRECTS = 5;
 
-/** @param {string} address */
+/**
+ * A signal that ends a request after LONGEST_ANSWER; it keeps no process alive.
+ * @param {string} address
+ */
 function timeout(address) {
   const controller = new AbortController();
   setTimeout(() => controller.abort(new Error(`no answer of ${address}`)), LONGEST_ANSWER).unref();

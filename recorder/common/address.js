@@ -31,7 +31,10 @@ const withoutTokens = (text) => (/[?#]/.test(text) ? text.replace(WITH_QUERY, (a
  */
 const tokensOf = (address) => [...address.matchAll(TOKEN)].map(([all, before]) => decoded(all.slice(before.length)));
 
-/** @param {string} text */
+/**
+ * A part of an address with its escapes read (`%20`).
+ * @param {string} text
+ */
 function decoded(text) {
   try {
     return decodeURIComponent(text);

@@ -270,6 +270,7 @@ class BrowserRecorder {
     evaluate().catch(() => { this.hasFacts = false; }); // the tab has gone: another one is asked
   }
 
+  /** Writes the loads that no longer change. Called every POLL. */
   writeDue() {
     const now = Date.now();
     for (const load of this.loads) if (!load.isOver && load.isDue(now)) this.write(load);

@@ -153,7 +153,10 @@ class DrivenTab {
     this.early = [];
   }
 
-  /** @param {ProtocolEvent} event */
+  /**
+   * The page sends a batch of lines: to the load of its document; they can come before the load is known.
+   * @param {ProtocolEvent} event
+   */
   takeLines({ executionContextId, payload }) {
     const load = this.loadOf({ executionContextId });
     if (load) load.take(payload);

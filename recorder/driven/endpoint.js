@@ -63,6 +63,7 @@ async function listens(endpoint) {
 }
 
 /**
+ * Waits until the browser takes clients at its port, or ends.
  * Called by main.js.
  * @param {{port: number, profile: string, pid: number}} of the browser; port 0 is one that it picks itself
  * @returns {Promise<{host: string, port: number}>}

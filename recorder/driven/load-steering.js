@@ -40,6 +40,7 @@ class LoadSteering extends RunSteering {
     this.begin(/** @type {import('../recording/recorder.js').Recorder} */ (/** @type {unknown} */ (this.asRecorder()))); // what steering reads of one
   }
 
+  /** What `RunSteering` reads of a recorder, which a driven browser has not. */
   asRecorder() {
     const { load: { intake, sources, address }, tab, ownNames } = this;
     return { intake, sources, given: address, tab, ownNames };

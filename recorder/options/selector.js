@@ -27,6 +27,7 @@ function patternOf(source, flags) {
 }
 
 /**
+ * A part by visible text: "in quotes" is the whole text, /pattern/ a pattern, else a part of it.
  * @param {string} value
  * @returns {Part}
  */
@@ -57,6 +58,7 @@ function rolePart(value) {
 }
 
 /**
+ * One part of a selector: by its engine (`text=..`), or by its look, as `//` of XPath; else CSS.
  * @param {string} said
  * @returns {Part}
  */

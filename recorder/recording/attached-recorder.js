@@ -109,6 +109,7 @@ class AttachedRecorder extends Session {
     while (isDue() && !this.isEnded && Date.now() < this.until) await sleep(POLL);
   }
 
+  /** Ends once, and only if the other program has not closed the page. */
   async finish() {
     if (this.isFinished) return;
     this.isFinished = true;
@@ -124,6 +125,7 @@ class AttachedRecorder extends Session {
     if (this.browser instanceof AttachedChromium && !this.browser.isGone) this.browser.close();
   }
 
+  /** Lines "not recorded" of a browser that another program drives. */
   losses() {
     const windows = this.windows ? [`windows that the page opened, left to the driver: ${this.windows}`] : [];
     const left = this.isLeft ? ['the page that came in the place of this one: a recording has one page'] : [];

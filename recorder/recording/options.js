@@ -111,6 +111,7 @@ function defaults() {
 }
 
 /**
+ * The options that a flow sets: its steps, its page and its size. `--viewport` counts before that of the flow.
  * @param {CommandOptions} options
  * @param {import('../options/flow.js').Flow} flow
  * @param {string} file
@@ -243,7 +244,10 @@ function withoutUser(given, options) {
   return address;
 }
 
-/** @param {string} address */
+/**
+ * The host of an address; empty if it has none, as a file.
+ * @param {string} address
+ */
 function hostOf(address) {
   try {
     return new URL(address).hostname;

@@ -120,7 +120,10 @@ class Recorder extends Session {
     }
   }
 
-  /** @param {Chromium} browser */
+  /**
+   * Starts the browser, and uses the time until its first answer for marking scripts ahead.
+   * @param {Chromium} browser
+   */
   async startBrowser(browser) {
     const { viewport, ignoresCertificateErrors, userDataDir, isHeaded } = this.options;
     browser.start({ ...viewport || WINDOW, ignoresCertificateErrors, userDataDir, isHeaded });
@@ -136,6 +139,7 @@ class Recorder extends Session {
     else warmUp();
   }
 
+  /** Prepares the tab before the page comes: the script of the recorder, and what signs in. */
   async prepareTab() {
     const holds = /** @type {import('../page/types').Hold[]|undefined} */ (this.steering?.forPage());
     await this.prepare({ holds, evaluate: (facts) => this.openTab().evaluate(facts) });
@@ -160,6 +164,7 @@ class Recorder extends Session {
 
   // ---- the page
 
+  /** The page comes, and the user acts. `isUsed` is false if the time was over before that. */
   async loadAndUse() {
     await this.load();
     this.isUsed = await this.useAndWait();

@@ -269,6 +269,7 @@ class Session {
   }
 
   /**
+   * Calls a method of the recording in the page, and waits for it at most so many milliseconds.
    * @param {'flush'|'finish'} method
    * @param {number} longest in milliseconds
    */

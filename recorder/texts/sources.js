@@ -124,6 +124,7 @@ class Sources {
   }
 
   /**
+   * Adds a text that came. The texts of all runs (`root`) get it too.
    * @param {string} address
    * @param {string} text
    */

@@ -164,6 +164,7 @@ class IndexMap {
 }
 
 /**
+ * Whether a value is a section of an indexed map.
  * @param {unknown} given
  * @returns {given is SectionJson}
  */

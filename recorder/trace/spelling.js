@@ -130,6 +130,7 @@ class Spelling {
   }
 
   /**
+   * A look at which handlers there are reads the slot of the type, and all handlers in it.
    * @param {string} element
    * @param {string} type
    */
@@ -140,6 +141,7 @@ class Spelling {
   }
 
   /**
+   * A timeout, or an interval that ticks once, if its delay is not compared with those of others (spelling/clocks.js).
    * @param {string} timeout
    * @param {string} delay
    */
@@ -149,6 +151,7 @@ class Spelling {
   }
 
   /**
+   * A message is posted: a record of version 3, before that a stand-in element, so that the message comes after its sender.
    * @param {string} message
    * @param {string} document
    * @param {string} standIn
@@ -175,7 +178,10 @@ class Spelling {
     this.put(`inline ${dispatch} ${standIn} message`);
   }
 
-  /** @param {string[]} words */
+  /**
+   * The end of a dispatch. That of a message of version 3 is inline in the message's action, which then goes on (`back`).
+   * @param {string[]} words
+   */
   spellClose(words) {
     this.put(words.join(' '));
     if (this.messageDispatches.has(words[1])) this.put(`back ${words[1]}`);

@@ -122,7 +122,10 @@ class Shown {
     return true;
   }
 
-  /** @param {Share} share */
+  /**
+   * Adds a group with its first race, if there is room for both.
+   * @param {Share} share
+   */
   addShare({ group, size, race }) {
     if (!this.addRace(race)) return false;
     const plain = { number: group + 1, race: race + 1, size, problem: this.indexOf(race) };

@@ -65,6 +65,7 @@ class Excerpts {
   }
 
   /**
+   * Where the word of a place is in its line as it is shown: a long line is cut around it.
    * @param {string|undefined} text
    * @param {number} column
    */

@@ -89,7 +89,10 @@ class Copies {
     return this.sources !== null && hasBody(status) && this.isText(event, type);
   }
 
-  /** @param {Paused} event the page, or what comes before it */
+  /**
+   * Called for the first page that comes: what it needs of the browser is read before its copy is made.
+   * @param {Paused} event the page, or what comes before it
+   */
   async beginPage(event) {
     if (!this.hasPageBegun) await this.beforePage(event.request.url);
     this.hasPageBegun = true;
@@ -154,6 +157,7 @@ class Copies {
   }
 
   /**
+   * A header of a content policy for the copy of a page. Trusted types are dropped and counted, since marks are no such texts.
    * @param {Texts} sources
    * @param {Paused} event
    * @param {Header} header
@@ -195,6 +199,7 @@ function withoutIntegrity(sources, headers) {
 }
 
 /**
+ * A file that cannot be marked goes on as it came, and is counted with the reason.
  * Called by browser/responses.js.
  * @param {Texts} sources
  * @param {unknown} fault

@@ -42,6 +42,7 @@ class KeepAnswers {
   }
 
   /**
+   * What takes the answer to a request: once it is kept, a replay does not lack it.
    * @param {string} networkId
    * @param {(answer: Answer) => boolean} keep
    */

@@ -72,6 +72,7 @@ class NetworkLog {
   }
 
   /**
+   * There is news of a request: it is alive, so its patience starts again.
    * @param {string} requestId of which there is news
    * @param {boolean} [isBody] whether parts of its body come
    */

@@ -34,7 +34,10 @@ class OwnOrigin {
     this.answered = new Set();
   }
 
-  /** @param {Paused} event */
+  /**
+   * The first request of the page decides which origin is its own.
+   * @param {Paused} event
+   */
   passRequest(event) {
     if (this.origin === null && this.steps.isOfPage(event)) this.origin = originOf(event.request.url);
     return false;

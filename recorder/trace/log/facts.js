@@ -47,7 +47,10 @@ const why = (value) => (typeof value === 'string' && value in Object.prototype ?
  * @type {Reader}
  */
 const raw = (value) => textOf(value, LONGEST_TEXT);
-/** @type {Reader} */
+/**
+ * An address of a fact, without password and control characters.
+ * @type {Reader}
+ */
 function address(value) {
   const given = textOf(value, LONGEST_ADDRESS);
   return given === undefined ? undefined : withoutCommands(withoutCredentials(given));

@@ -181,6 +181,7 @@ class LegalTrace {
     return true;
   }
 
+  /** An inline dispatch ends. Returns what was suspended by it. */
   leaveInline() {
     this.inlines--;
     return /** @type {Dispatch} */ (this.stack.pop()).suspended;

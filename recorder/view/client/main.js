@@ -120,6 +120,7 @@ function render() {
   control('groups').replaceChildren(...boxes, ...fold('section', known, make('h2', {}, 'known'), make('span', { class: 'size' }, counted(known.length, 'problem'))));
 }
 
+/** Called once, when the page of the view is there. */
 function start() {
   ['kind', 'order'].forEach((id) => control(id).addEventListener('change', render));
   control('text').addEventListener('input', render);

@@ -27,6 +27,7 @@ function originsOf(action) {
 }
 
 /**
+ * From what an action comes, as nested lists, so many levels deep.
  * Called by picture.js.
  * @param {number} action
  * @param {number} depth
@@ -109,6 +110,7 @@ function pairBox(from, to) {
 }
 
 /**
+ * The box that says from what both actions come, and on request by which steps one is after the other.
  * Called by races.js.
  * @param {Race} race
  */

@@ -100,7 +100,10 @@ function toldBoxes({ name, sides, details }) {
   return [make('table', { class: 'sides' }, ...rows), ...lines, make('p', { class: 'lines' }, `${name} (for races.known)`)];
 }
 
-/** @param {Race[]} others */
+/**
+ * The other races of a group, closed at first.
+ * @param {Race[]} others
+ */
 function otherRaces(others) {
   const summary = make('summary', {}, `${counted(others.length, 'more race')} of its group`);
   return foldable('others', summary, () => pieces(others, (race) => {

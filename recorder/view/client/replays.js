@@ -22,6 +22,7 @@ const EFFECTS = ['an uncaught error', 'a lost act', 'a lost input', 'a lost even
 const RANKS = { not: EFFECTS.length, none: EFFECTS.length + 1, same: EFFECTS.length + 2 };
 
 /**
+ * What a replay found, in one word, by which lines are sorted and marked.
  * @param {ShownReplay|undefined} replay
  * @returns {Verdict}
  */
@@ -65,7 +66,10 @@ function replayOfLine({ problems }) {
   return found.sort((a, b) => rankOfReplay(a) - rankOfReplay(b))[0];
 }
 
-/** @param {ShownReplay|undefined} replay */
+/**
+ * Where a race is, if sorted by what replays found: differences first, by the kind of effect.
+ * @param {ShownReplay|undefined} replay
+ */
 function rankOfReplay(replay) {
   const verdict = verdictOf(replay);
   return verdict === 'differs' ? EFFECTS.indexOf(replay?.effect || '') : RANKS[verdict];
@@ -123,6 +127,7 @@ function pictureBox(data, title, boxes) {
 }
 
 /**
+ * A table of differences that say less, closed at first.
  * @param {Difference[]|undefined} differences
  * @param {string} words
  */
