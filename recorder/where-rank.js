@@ -284,7 +284,7 @@ function rank(given, index, { without = '', context = [] } = {}) {
     return { module: entry.module, share, score: score + OF_DEFINITION * Math.max(0, ...ofParts) };
   });
   const asksTests = ASKS_TESTS.test(given.join(' '));
-  const isTest = (/** @type {FoundModule} */ { module: { name } }) => Number(!asksTests && name.startsWith('test/'));
+  const isTest = (/** @type {FoundModule} */ { module: { name } }) => Number(!asksTests && name.startsWith('test/') && (near.get(name)?.like || 0) < SAME);
   modules.sort((one, other) => isTest(one) - isTest(other) || other.score - one.score);
   const rows = corpus.rows.map(({ row, question, answer }) => ({ row, ...scoreOf(wanted.map(({ forms }) => FIELDS.asked.weight * countIn(question, forms) + countIn(answer, forms)), wanted) }))
     .filter(({ score }) => score).sort((one, other) => other.score - one.score);

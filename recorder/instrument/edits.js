@@ -104,6 +104,7 @@ class EditedText {
     return { line: from.line, from: from.column, to: to.line === from.line ? to.column : Infinity };
   }
 
+  /** The lines of the changed text, which are read when a place is first looked for. */
   linesOfChanged() {
     this.changedLines = this.changedLines || new Lines(this.text, this.kind === 'script' ? LINE_END_OF_SCRIPT : LINE_END);
     return this.changedLines;

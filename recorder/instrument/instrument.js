@@ -118,7 +118,10 @@ function beginCall(options, program, scope, { variables }, taken) {
   return `;${IDLE}__er.scriptBegins(globalThis.document&&document.currentScript,${site},${JSON.stringify(functions)}${own});`;
 }
 
-/** @param {Options} options */
+/**
+ * The call at the end of a run: also if it throws, for a handler and an address.
+ * @param {Options} options
+ */
 function endCall({ kind }) {
   if (kind === 'handler') return '}finally{__er.handlerEnds()}';
   if (kind === 'address') return '}finally{__er.addressEnds()}';

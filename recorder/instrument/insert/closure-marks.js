@@ -61,6 +61,7 @@ class ClosureMarks extends Marks {
   }
 
   /**
+   * A block that declares captured variables gets the number of its scope as it starts.
    * @param {Scope} scope
    * @param {Node} node
    * @param {number} offset after the brace
@@ -171,6 +172,7 @@ class ClosureMarks extends Marks {
   }
 
   /**
+   * The first value of one variable: a write if it is reported, and the value of before if it is a `var`, which can have one.
    * @param {Identifier} id
    * @param {Expression} init
    * @param {Scope} scope
@@ -184,6 +186,7 @@ class ClosureMarks extends Marks {
   }
 
   /**
+   * The calls after a pattern, for each variable that it declares.
    * @param {string[]} names
    * @param {string[]} reported
    * @param {number} start

@@ -122,6 +122,7 @@ class ExpressionWalker {
     this.visitChildren(node, scope, isEval ? callee : undefined);
   }
 
+  /** `typeof a` and `delete a.b` are apart; `delete a` of a variable does nothing in most scripts, so it has no mark. */
   UnaryExpression(/** @type {UnaryExpression} */ node, /** @type {Scope} */ scope) {
     const { argument, operator } = node;
     if (argument.type === 'Identifier' && operator === 'typeof') this.visitTypeof(node, argument, scope);
@@ -143,6 +144,7 @@ class ExpressionWalker {
 
   // ---- assignments and declarations
 
+  /** Declarations: only those with a value write. */
   visitDeclarations(/** @type {VariableDeclaration} */ node, /** @type {Scope} */ scope) {
     for (const declarator of node.declarations) {
       this.visitPattern(declarator.id, scope);

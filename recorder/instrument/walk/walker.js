@@ -162,7 +162,10 @@ class Walker extends ExpressionWalker {
 
   // ---- loops
 
-  /** @param {() => void} visit */
+  /**
+   * Visits code that can run again: in it a declared variable can get a first value more than once.
+   * @param {() => void} visit
+   */
   inLoop(visit) {
     this.loops++;
     visit();

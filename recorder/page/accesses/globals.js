@@ -60,22 +60,16 @@ class Globals {
     this.lastPieces = new Uint32Array(FIRST_SITES);
   }
 
-  /**
-   * A script declares variables with names of the browser. A `var` of such a name is the page's if it can be written. Called by page/helpers/runs.js.
-   * @param {[name: string, isVar: boolean][]} taken
-   */
-  take(taken) {
+  /** A script declares variables with names of the browser. A `var` of such a name is the page's if it can be written. Called by page/helpers/runs.js. */
+  take(/** @type {[name: string, isVar: boolean][]} */ taken) {
     each(taken, ({ 0: name, 1: isVar }) => {
       const found = this.propertyOf(name);
       if (!isVar || !found || found.set || found.writable) this.builtins.delete(name);
     });
   }
 
-  /**
-   * The location of a global variable, as the trace has it. Also for unseen.js.
-   * @param {string} name
-   */
-  location(name) {
+  /** The location of a global variable, as the trace has it. Also for unseen.js. */
+  location(/** @type {string} */ name) {
     return `var ${this.number} ${spellName(name)}`;
   }
 
@@ -145,13 +139,21 @@ class Globals {
     if (variable && isOnlyCounted) variable.flags |= IS_COUNTED;
   }
 
-  /** @param {string} name @param {number} site */
+  /**
+   * A read of a global: of the variable of an object, if the recording has objects.
+   * @param {string} name
+   * @param {number} site
+   */
   #touchRead(name, site) {
     if (this.holder) this.recording.objects?.variables.readAs(this.holder, this.holder.variable(name), site, this.#valueBefore(name));
     else this.#touch(name, READ, site);
   }
 
-  /** @param {string} name @param {number} site */
+  /**
+   * A write of a global, with the value from before, if the recording has objects.
+   * @param {string} name
+   * @param {number} site
+   */
   #touchWritten(name, site) {
     if (this.holder) this.stage(name, site);
     else this.#touch(name, WRITE, site);
@@ -183,7 +185,10 @@ class Globals {
     return this.cells[index] = part;
   }
 
-  /** @param {string} name */
+  /**
+   * Where the last known value of a `let`, `const` or `class` of the top is: it is no property of the window.
+   * @param {string} name
+   */
   #cellOf(name) {
     if (this.propertyOf(name)) return null;
     let cell = this.lexicals.get(name);

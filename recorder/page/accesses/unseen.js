@@ -40,6 +40,7 @@ class Unseen {
   }
 
   /**
+   * Hooks `Object.defineProperty` and others like it: a comparison of keys does not find all that they define at a window.
    * @param {object} owner
    * @param {string} name
    * @param {(target: object, given: any, descriptor: any) => void} note the arguments are whatever the page passes
@@ -58,6 +59,7 @@ class Unseen {
   }
 
   /**
+   * A property that is not enumerable is not among the keys that are compared, so its name is kept.
    * @param {object} target
    * @param {unknown} name
    * @param {GivenDescriptor} descriptor
@@ -81,7 +83,10 @@ class Unseen {
     each(this.hidden, (name) => this.#compareOne(name));
   }
 
-  /** @param {string} name */
+  /**
+   * Compares one global, unless it is a getter.
+   * @param {string} name
+   */
   #compareOne(name) {
     const descriptor = this.#descriptorOf(name);
     if (!descriptor) return;
@@ -130,6 +135,7 @@ class Unseen {
   }
 
   /**
+   * A write by code without marks: it has a value, and no place.
    * @param {string} name
    * @param {unknown} value
    */

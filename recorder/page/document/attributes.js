@@ -168,6 +168,7 @@ class Attributes {
   }
 
   /**
+   * Calls what sets an attribute, as a new source if the element loads what that names.
    * @template T
    * @param {Element} element
    * @param {string} name

@@ -41,6 +41,7 @@ class LoadsInOrder {
   }
 
   /**
+   * The end of the load before of an element, if that load always comes first: its source was set before the one of this load.
    * @param {Element} element
    * @param {import('./sources.js').Load|undefined} load
    */

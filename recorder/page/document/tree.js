@@ -58,7 +58,10 @@ class Tree {
     });
   }
 
-  /** @param {Maker} [maker] who made what is in the document by now */
+  /**
+   * Adds the elements that are there, and watches the document from now on.
+   * @param {Maker} [maker] who made what is in the document by now
+   */
   start(maker = 'script') {
     const { document } = this.page;
     if (document.documentElement) this.#addTree(document.documentElement, maker);
@@ -80,11 +83,8 @@ class Tree {
 
   // ---- changes
 
-  /**
-   * Takes the changes so far. Called by page/events/calls.js, page/frames.js and page/recording/recording.js.
-   * @param {'script'|'parser'} by
-   */
-  collect(by) {
+  /** Takes the changes so far. Called by page/events/calls.js, page/frames.js and page/recording/recording.js. */
+  collect(/** @type {'script'|'parser'} */ by) {
     const records = this.observer.takeRecords();
     if (records.length) this.#handle(records, by);
   }
@@ -122,7 +122,11 @@ class Tree {
     each(records, (record) => this.#handleOne(record, 'browser'));
   }
 
-  /** @param {MutationRecord} record @param {Maker} maker */
+  /**
+   * One change of the tree, by its kind.
+   * @param {MutationRecord} record
+   * @param {Maker} maker
+   */
   #handleOne(record, maker) {
     if (this.#isOfHold(record)) return;
     if (record.type === 'childList') this.#handleChildren(record, maker);
@@ -202,7 +206,11 @@ class Tree {
     each(apply(this.natives.querySelectorAll, node, ['[id]']), (element) => this.#writeId(this.elements.idOf(element), maker));
   }
 
-  /** @param {Node} node @param {Maker} maker */
+  /**
+   * A script inserted an element with all in it. Each is added, so that lookups have something to race with.
+   * @param {Node} node
+   * @param {Maker} maker
+   */
   #addTree(node, maker) {
     if (!isElement(node)) return;
     this.add(node, maker);
@@ -234,8 +242,8 @@ class Tree {
 
   // ---- parse steps
 
-  /** @param {Element} element */
-  #addParsed(element) {
+  /** The parser has made an element: a step of it, unless it is one that a script had made. */
+  #addParsed(/** @type {Element} */ element) {
     const kind = this.elements.declaration(element, true);
     this.elements.markDeclared(element, kind);
     this.writeParsed(element, this.elements.number(element), kind);

@@ -216,7 +216,10 @@ class Causes {
     return `${apply(scrollLeft, element, [])} ${apply(scrollTop, element, [])}`;
   }
 
-  /** @param {HTMLInputElement|HTMLTextAreaElement} field */
+  /**
+   * What is selected in a field, as a text that can be compared.
+   * @param {HTMLInputElement|HTMLTextAreaElement} field
+   */
   #selectedIn(field) {
     const { HTMLInputElement, HTMLTextAreaElement } = this.page.natives.selected;
     const { start, end } = field.localName === 'textarea' ? HTMLTextAreaElement : HTMLInputElement;

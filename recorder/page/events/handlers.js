@@ -114,6 +114,7 @@ class Handlers {
   // ---- addEventListener
 
   /**
+   * The registrations of a target, a type and a phase.
    * @param {EventTarget} target
    * @param {string} type
    * @param {boolean} isCapture

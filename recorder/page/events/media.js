@@ -61,7 +61,10 @@ class Media {
     else this.loading.delete(element);
   }
 
-  /** @param {HTMLMediaElement} element */
+  /**
+   * The running code has started to play: the events of playing come after it.
+   * @param {HTMLMediaElement} element
+   */
   #notePlaying(element) {
     const moment = this.recording.moment();
     if (moment) this.playing.set(element, { moment, isOfSeveral: true });

@@ -218,6 +218,7 @@ class OnHandlers {
   }
 
   /**
+   * An `on..` handler of a type is gone.
    * @param {Target} owner
    * @param {string} type
    */

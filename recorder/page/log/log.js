@@ -64,7 +64,10 @@ class Log {
     else this.#add(line);
   }
 
-  /** @param {string} line */
+  /**
+   * Adds a line to the batch.
+   * @param {string} line
+   */
   #add(line) {
     this.#text += `${line}\n`;
     this.#lines++;

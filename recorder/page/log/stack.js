@@ -49,6 +49,7 @@ function takeStack(depth = STACK_DEPTH) {
 const valueOnly = (value) => ({ __proto__: null, value, writable: true, enumerable: true, configurable: true });
 
 /**
+ * Gives a property of `Error` back to the page as it was.
  * @param {string} name
  * @param {PropertyDescriptor|undefined} descriptor as the page had it
  */

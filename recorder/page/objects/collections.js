@@ -93,6 +93,7 @@ class Collections {
   }
 
   /**
+   * All items of an array are read: the variable of all, and each that was touched by its index.
    * @param {import('../types').Holder} holder
    * @param {number} site
    */
@@ -106,6 +107,7 @@ class Collections {
   // ---- maps and sets
 
   /**
+   * A method of a map or a set was called: which keys it reads or writes. A method of its own is none of these.
    * @param {import('../types').Holder} holder
    * @param {string} name
    * @param {number} site
@@ -208,6 +210,7 @@ class Collections {
   }
 
   /**
+   * The names of an object, at most MOST_SPREAD of them.
    * @param {object} object
    * @param {(name: string) => void} visit
    */

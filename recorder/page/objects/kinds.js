@@ -93,7 +93,10 @@ class Kinds {
     return this.#addBuiltin(object, up === null ? PLAIN : madeBy(this.holdPrototype(up)));
   }
 
-  /** @param {Function} maker */
+  /**
+   * Whether a constructor is of the browser, or one that the recorder put in its place.
+   * @param {Function} maker
+   */
   #isNative(maker) {
     const holder = this.holders.get(maker);
     if (holder !== undefined && holder.kind === LEFT_OUT) return false;

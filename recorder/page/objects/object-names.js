@@ -85,6 +85,7 @@ class ObjectNames {
   }
 
   /**
+   * A text that an object has itself at a name, without calling a getter or a proxy of the page.
    * @param {object} object
    * @param {string} name
    */
@@ -104,7 +105,10 @@ class ObjectNames {
     return typeof key === 'string' ? `[${sliceOf(key, 0, LONGEST_TOLD)}]` : `[${String(key)}]`;
   }
 
-  /** @param {object} key */
+  /**
+   * The number of an object that is a key of a map.
+   * @param {object} key
+   */
   #keyNumber(key) {
     let number = this.keys.get(key);
     if (number === undefined) this.keys.set(key, number = this.recording.next('key'));

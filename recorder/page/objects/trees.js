@@ -39,7 +39,10 @@ const READS_CLASSES = new Set(['value', 'length', 'contains', 'toggle']);
 /** What the variables of a style begin with. */
 const OF_STYLE = 'style.';
 
-/** @param {string} name in camel case */
+/**
+ * The name of a CSS property for that of JavaScript: `marginTop` is `margin-top`.
+ * @param {string} name in camel case
+ */
 function withDashes(name) {
   let text = '';
   for (let k = 0; k < name.length; k++) text += name[k] >= 'A' && name[k] <= 'Z' ? `-${lowerCase(name[k])}` : name[k];
@@ -284,6 +287,7 @@ class Trees {
 }
 
 /**
+ * A variable that is an attribute, the content or a style of an element, and no property of scripts.
  * @param {import('../types').Holder} holder
  * @param {string} name
  */

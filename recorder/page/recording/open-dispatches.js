@@ -107,6 +107,7 @@ class OpenDispatches extends Lines {
   }
 
   /**
+   * Keeps the end of a trusted dispatch for those of its task that follow; only the last MOST_CLOSED.
    * @param {string} type
    * @param {number} time
    */

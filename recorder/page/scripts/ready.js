@@ -48,7 +48,10 @@ class Ready {
     return !this.#isProxy(library) && getPrototypeOf(library) === this.functions;
   }
 
-  /** @param {object} object */
+  /**
+   * Whether an object would run code of the page if it were looked at.
+   * @param {object} object
+   */
   #isProxy(object) {
     const { objects } = this.recording;
     return objects !== null && objects.kinds.isLeftOut(object);

@@ -50,6 +50,7 @@ class Promises {
     this.prototype = page.window.Promise.prototype;
   }
 
+  /** Hooks what asks for jobs. One call per document, before its code runs. */
   start() {
     const { window } = this.page;
     this.#replaceThen(window);
