@@ -15,7 +15,10 @@ const { startOf } = require('./opened-window.js');
 
 /** @type {Required<Pick<Plan, 'cause'|'second'|'longest'>>} what a plan with a load has */
 const EMPTY = { cause: { means: 'act', action: 0, words: '' }, second: { key: '', mode: '', kind: '', name: '', nth: 0, actionKey: '', nthAction: 0, isLookUp: false }, longest: 0 };
-/** Characters, or a multiple of them, for the holds with the places of the page's own scripts: their columns depend on the length of what is put before them. */
+/**
+ * Room for the places of the page's own scripts, which are known when it is instrumented: their columns depend on the length of what is put before them. Long
+ * stacks get more.
+ */
 const ROOM = 4000;
 
 /** @param {unknown} value */
@@ -56,7 +59,7 @@ class LoadSteering extends RunSteering {
   insertions(address, html) {
     const opened = this.opened?.insertions(address, html) || [];
     if (address !== this.load.address) return opened;
-    return [...opened, ...this.#expectations(address, html, opened), ...this.#parserHolds(address, html)];
+    return [...opened, ...this.expectations(address, html, opened), ...this.parserHolds(address, html)];
   }
 
   /**
@@ -64,7 +67,7 @@ class LoadSteering extends RunSteering {
    * @param {string} address
    * @param {string} html
    */
-  #parserHolds(address, html) {
+  parserHolds(address, html) {
     const lines = new Lines(html);
     for (const { cause } of this.holds) {
       const { line, column } = /** @type {NonNullable<Plan['cause']>} */ (cause);
@@ -80,25 +83,22 @@ class LoadSteering extends RunSteering {
    * @param {Insertion[]} before what else is put there
    * @returns {Insertion[]}
    */
-  #expectations(address, html, before) {
+  expectations(address, html, before) {
     const holds = this.forPage();
     if (!holds.length) return [];
     const start = startOf(html);
-    const tell = (/** @type {unknown[]} */ expected) => ofRecording(this.ownNames, `.steering.expect(${codeOf(expected)}, true)`);
-    const write = (/** @type {string} */ told, /** @type {number} */ room) => ({ start, end: start,
-      insert: `<script data-er-hold nonce="${HOLD_NAME}">${told.padEnd(room)};__er.removeHold(document.currentScript)</script>` });
-    for (let room = ROOM; ; room *= 2) {
-      this.load.sources.tryInsertions(address, [...before, write(tell(holds), room)]); // the copy as it will be, so that #withSpots finds the columns in it
-      const told = tell(holds.map((hold) => this.#withSpots(hold)));
-      if (told.length <= room) return [write(told, room)];
+    const codeFor = (/** @type {unknown[]} */ expected) => ofRecording(this.ownNames, `.steering.expect(${codeOf(expected)}, true)`);
+    const write = (/** @type {string} */ code) => ({ start, end: start, insert: `<script data-er-hold nonce="${HOLD_NAME}">${code};__er.removeHold(document.currentScript)</script>` });
+    for (let room = ROOM; ;) {
+      this.load.sources.tryInsertions(address, [...before, write(''.padEnd(room))]);
+      const code = codeFor(holds.map((hold) => this.withSpots(hold)));
+      if (code.length <= room) return [write(code.padEnd(room))];
+      room = 2 * code.length; // with more room the columns have a few digits more
     }
   }
 
-  /**
-   * A hold with the places in the browser's copy of the code that requests it, as the page's stacks have them.
-   * @param {ReturnType<import('../replay/hold.js').Hold['forPage']>} hold
-   */
-  #withSpots(hold) {
+  /** @param {ReturnType<import('../replay/hold.js').Hold['forPage']>} hold */
+  withSpots(hold) {
     const { place = '', way = '' } = /** @type {{place?: string, way?: string}} */ (hold || {});
     const places = way ? way.split('\n') : [place];
     return place || way ? { ...hold, spots: places.map((one) => spotOf(this.load.sources, one)) } : hold;
@@ -106,7 +106,7 @@ class LoadSteering extends RunSteering {
 
   /** Called when a script is instrumented: the page gets the places of its code in the browser's copy before the script, or before its own start. */
   async locate() {
-    const located = this.forPage().filter((hold) => hold && ('place' in hold) && hold.place).map((hold) => this.#withSpots(hold));
+    const located = this.forPage().filter((hold) => hold && ('place' in hold) && hold.place).map((hold) => this.withSpots(hold));
     if (!located.length || this.isReleased()) return;
     await this.tab.evaluate(ofRecording(this.ownNames, `.steering.expect(${codeOf(located)})`)).catch(() => {}); // a page that has gone
   }

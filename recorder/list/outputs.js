@@ -9,6 +9,7 @@ const { librariesInWords } = require('../trace/accesses.js');
 const { plainListing } = require('./json.js');
 const { APART } = require('./patterns/table.js');
 const { sarifOf } = require('./sarif.js');
+const { replaysInWords } = require('./verdicts.js');
 
 /**
  * @typedef {import('./listing.js').Listing} Listing
@@ -80,12 +81,9 @@ function countsOf(listing) {
  */
 function totalsOf(listing) {
   const known = listing.knownLines().length;
-  const verdicts = listing.verdicts.flatMap((some) => [...some?.values() || []]);
-  const differing = verdicts.filter(({ effect }) => effect);
-  const onlyHandlers = differing.filter(({ differences = [] }) => differences.length && differences.every(({ kind }) => kind === 'event')).length;
-  const only = onlyHandlers ? ` (${onlyHandlers === differing.length ? 'only' : `${onlyHandlers} only`} in which handlers run)` : '';
+  const replays = replaysInWords(listing.verdicts);
   return [countsOf(listing), ...(known ? [`${known} known`] : []),
-    ...(verdicts.length ? [`${differing.length} of ${verdicts.length} differ in the other order${only}`] : []), ...incompleteInWords(listing)].join(', ');
+    ...(replays ? [replays] : []), ...incompleteInWords(listing)].join(', ');
 }
 
 /** @param {Listing} listing */

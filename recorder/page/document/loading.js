@@ -89,11 +89,8 @@ class Loading {
     recording.finishTop();
   }
 
-  /**
-   * Writes the begin of a dispatch that belongs to loading. Returns whether it does. Called by page/events/dispatches.js.
-   * @param {EventDispatch} dispatch
-   */
-  begin(dispatch) {
+  /** Writes the begin of a dispatch that belongs to loading. Returns whether it does. Called by page/events/dispatches.js. */
+  begin(/** @type {EventDispatch} */ dispatch) {
     const { event, target } = dispatch;
     if (this.#isOfDocument(event, target)) return this.#beginOfDocument(dispatch);
     if (!this.recording.steering.isTrusted(event) || target.nodeType !== 1 || isMedia(target)) return false;
@@ -216,6 +213,7 @@ class Loading {
     else this.loaded.add(target);
     this.recording.begin(`eload ${dispatch.number} ${number}`, 'begin');
     this.inOrder.begins(dispatch, target, later);
+    sources.missFrame(target);
     this.#noteAwaited(dispatch, number, tree.isParsing() && tree.lastParsed === number && sources.isEmptyFrame(target), later);
     return true;
   }
@@ -240,6 +238,7 @@ class Loading {
     const { scripts, dispatches } = this.page;
     const isOfScript = event.isTrusted && target.localName === 'script' && fits(/^(load|error)$/, event.type) && !this.loaded.has(target);
     if (!isElement(target) || !isOfScript) return false;
+    if (event.type === 'load') this.recording.unmarked.noteLoaded(target);
     this.recording.finishAll();
     if (!scripts.isRunning(target) && !scripts.runEmpty(target)) return false;
     this.loaded.add(target);
