@@ -19,7 +19,10 @@ class LoadEntries extends Entries {
     this.notReplayedWords = (/** @type {Listed} */ { name }) => (listing.verdicts.some((some) => some?.size) ? `no (--replay ${name} does it)` : '');
   }
 
-  /** @param {Listed} line */
+  /**
+   * What the process that analyzed a load has said of a problem: this one has no trace of it.
+   * @param {Listed} line
+   */
   saidOf({ run, name }) {
     const said = this.loads[run].said.get(name);
     if (!said) throw new Error(`load ${run + 1} has not stored what is said of ${name}`);
