@@ -64,11 +64,7 @@ const chanceOf = (look, judged) => (look.isIdle ? ASSUMED_OF_IDLE : shareOf(judg
 /** @type {{[detail: string]: string}} */
 const OF_DETAIL = { '': '', choosing: ', of an event by which a user chooses,', element: ', of an element that is looked up,', read: ', of a field that is read later,', one: ', of one act,' };
 
-/**
- * Why a problem without a replay has its rank: the share of judged problems of its pattern that did harm.
- * @param {Look} look
- * @param {Shares} shares
- */
+/** @param {Look} look @param {Shares} shares */
 function reasonOf(look, shares) {
   if (look.isIdle) return 'its handler ran, and changed nothing that is recorded';
   const [harmful, judged] = shares[kindOf(look)] || [0, 0];
@@ -85,7 +81,6 @@ function hasVisible({ differences, words }) {
 }
 
 /**
- * The level of a problem by what a replay found, which counts more than its pattern.
  * @param {Verdict} verdict that of a race that was reversed
  * @returns {{level: number, reason: string, chance?: number}}
  */
@@ -101,7 +96,6 @@ function levelOf(verdict) {
 }
 
 /**
- * The rank of a problem, with its reason: by its replay if that turned the race, else by chance.
  * @param {Look} look
  * @param {Verdict} [verdict]
  * @param {Shares} [judged]

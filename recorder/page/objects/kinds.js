@@ -5,7 +5,6 @@ import { sliceOf } from '../core/strings.js';
 import { Object, Symbol, WeakMap, apply, construct, functionText, getOwnPropertyDescriptor, getPrototypeOf, isArray, isView } from '../core/taken.js';
 import { BUILTIN, BYTES, Holder, LEFT_OUT, LIST, MAP, PLAIN, SET, STORAGE, TREE } from './holders.js';
 
-/** So many prototypes are looked at. A page can make a longer chain, so that each access would take long. */
 const LONGEST_PROTOTYPE_CHAIN = 12;
 const NATIVE_TEXT = ' [native code] }';
 
@@ -117,10 +116,7 @@ class Kinds {
     return getOwnPropertyDescriptor(maker, 'prototype')?.value === object ? this.holdPrototype(object) : undefined;
   }
 
-  /**
-   * Whether a constructor is of the browser, or one that the recorder put in its place.
-   * @param {Function} maker
-   */
+  /** @param {Function} maker */
   #isNative(maker) {
     const holder = this.holders.get(maker);
     if (holder !== undefined && holder.kind === LEFT_OUT) return false;
