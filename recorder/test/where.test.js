@@ -20,7 +20,7 @@ const PRINTED = 6;
 /** @type {{[words: string]: string}} */
 const QUESTIONS = {
   clear: 'clearing.js', CSP: 'content-policy.js', localStorage: 'fields.js', cookie: 'fields.js', fetch: 'requests.js', websocket: 'connections.js', iframe: 'frames.js',
-  'local variable': 'look.js', eval: 'marks.js', 'recording end': 'rest.js', 'element name': 'element-words.js', 'click where': 'targets.js', redirect: 'page-steps.js',
+  'local variable': 'look.js', eval: 'marks.js', 'recording end': 'rest.js', 'element name': 'element-words.js', redirect: 'page-steps.js',
   download: 'tab.js', 'log-in': 'signed-in.js', error: 'error-text.js', severity: 'rank.js', known: 'known.js', junit: 'loads-junit.js', 'exit status': 'status.js',
   'option default': 'options.js', POST: 'changing.js', clock: 'chance.js', 'source map': 'source-map.js', 'module import': 'imports.js', jquery: 'ready.js', popup: 'opened-window.js',
   clearTimeout: 'clearing.js', setInterval: 'timers.js', 'iframe merge': 'frames.js', 'frame log': 'frames.js', 'send node': 'main.js', binding: 'main.js', integrity: 'attributes.js',

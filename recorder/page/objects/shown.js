@@ -69,7 +69,10 @@ const READS_STYLE = new Set(['getPropertyValue', 'getPropertyPriority']);
 
 /** Their variables are those of the properties of the same name (fields.js), and lookups (lookups.js). */
 const OTHERS = new Set(['id', 'value', 'checked']);
-/** @param {string} attribute */
+/**
+ * Whether other modules record an attribute: its id, its value, a handler. Called by trees.js.
+ * @param {string} attribute
+ */
 const isOther = (attribute) => OTHERS.has(attribute) || sliceOf(attribute, 0, 2) === 'on';
 
 /** @param {string} property */
