@@ -41,7 +41,7 @@ function verdictOf(result) {
 }
 
 /**
- * The worst effect: its name, its rank and the difference that has it; null if nothing differs. Called by replay-results.js and suite-replays.js.
+ * The worst effect: its name, its rank and the difference that has it; null if nothing differs. Called by suite-replays.js.
  * @param {Pick<Result, 'differences'>} result
  */
 function worstOf({ differences = [] }) {

@@ -57,7 +57,7 @@ class Unmarked {
   }
 
   /**
-   * A script has come whose text is not in the page. Called by page/document/tree.js.
+   * A script has come whose text is not in the page. Called by page/scripts/insertions.js.
    * @param {string} address
    */
   noteAddress(address) {
