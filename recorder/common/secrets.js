@@ -43,6 +43,7 @@ function keepHeader([name, value]) {
 }
 
 /**
+ * A password is a secret as it is, and as the header `Authorization` has it.
  * Called by options/secrets-of.js.
  * @param {{user: string, password: string}} credentials
  */

@@ -30,7 +30,7 @@ const EFFECTS = [
 const VERDICTS = { differs: 'differs', others: 'differs only by another race', not: 'could not be turned', same: 'no visible difference' };
 
 /**
- * Called by replay-results.js.
+ * The verdict in one word: `differs`, `same`, `others` (only another race made a difference), or `not` (not turned). Called by replay-results.js.
  * @param {Pick<Result, 'verdict'|'differences'>} result
  * @returns {'differs'|'others'|'same'|'not'}
  */
@@ -67,6 +67,7 @@ function orderOfResults(a, b) {
 }
 
 /**
+ * What is said of runs in which the two came in the other order by chance.
  * @param {Result['chance']} chance
  * @param {boolean} isTurned
  */
