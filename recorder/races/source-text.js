@@ -37,7 +37,7 @@ class SourceText {
   }
 
   /**
-   * The lines of a file by their numbers, from 1. Called by list/element-words.js, list/patterns/assignments.js and view/excerpts.js.
+   * The lines of a file by their numbers, from 1. Called by list/without-handler.js, list/patterns/assignments.js and view/excerpts.js.
    * @param {number} file
    */
   linesOf(file) {

@@ -32,7 +32,7 @@ function countsOf(lines) {
 }
 
 /**
- * The lines of what is not known.
+ * The lines of what is not known. Called by html.js.
  * @param {{problems: number, entries?: number}} counts
  */
 const entriesOf = ({ problems, entries = problems }) => entries;
