@@ -15,7 +15,7 @@ const { encode } = encoder;
 
 /** @type {Map<string, string>} */
 const spelledNames = new Map();
-/** So many spelled names are remembered: most come again and again. */
+/** So many written names are remembered: most come again and again. */
 const MOST_SPELLED = 20000;
 
 /**

@@ -91,7 +91,7 @@ class Observers {
   }
 
   /**
-   * Hooks `observe`: an observer's callback comes after the calls that told it what to observe.
+   * Hooks `observe`: an observer's callback comes after the calls that say what it observes.
    * @param {any} owner its members differ by interface
    */
   #replaceObserve(owner) {
