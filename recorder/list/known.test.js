@@ -165,7 +165,7 @@ test('two acts of a user fail no build unless it is asked for', async () => {
   const plain = new Listing([problems], new Known('', 'known'));
   const asked = new Listing([problems], new Known('', 'known'), { countsActs: true });
   assert.deepStrictEqual([plain, asked].map((one) => [one.fresh().length, one.failing().length]), [[1, 0], [1, 1]]);
-  assert.strictEqual(linesOf(plain)[0], '-- another input, not another order');
+  assert.strictEqual(linesOf(plain)[0], '-- only another input of the user changes the order');
   assert.deepStrictEqual(plainListing(plain, { page: '', status: 0, files: [], folder: null }).problems.map(({ fails }) => fails), [false]);
 });
 

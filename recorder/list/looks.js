@@ -23,6 +23,12 @@ const { isTypedOver } = require('./patterns/typed.js');
 const pairOf = ({ actions }, modes) => `${actions.join(' ')} ${modes}`;
 
 /**
+ * The pattern of a race whose two sides come from acts of a user.
+ * @param {boolean} isOne whether they come from one act
+ */
+const actsOf = (isOne) => lookOf('acts', `${isOne ? 'both come from one act of a user' : 'two acts of a user'}: only another input of the user changes the order`, isOne ? 'one' : '');
+
+/**
  * The form fields of elements: what a user types or chooses.
  * @param {string} location
  */
@@ -90,7 +96,7 @@ class Looks {
    */
   look(race) {
     const acts = race.actions.map((action) => this.userActs.actOf(action));
-    if (acts[0] && acts[1]) return lookOf('acts', `${acts[0] === acts[1] ? 'both come from one act of a user' : 'two acts of a user'}: it takes another input to turn them, not another order`);
+    if (acts[0] && acts[1]) return actsOf(acts[0] === acts[1]);
     if (race.location.startsWith('slot ')) return this.handler(race, acts) || lookOf('other');
     return this.alike(race) || this.writes(race, acts) || this.typed(race) || this.flag(race) || this.use(race) || this.scratch(race) || lookOf('other');
   }

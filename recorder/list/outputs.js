@@ -17,7 +17,7 @@ const { replaysInWords } = require('./verdicts.js');
  * @typedef {{isJson?: boolean, color?: string, sarif?: string|null, known?: string|null, writesKnown?: boolean}} OutputOptions
  */
 
-/** The last line on a terminal. */
+/** The line after the list, only on a terminal: which documents explain it. */
 const HELP = 'What the lines mean: docs/using.md, "A problem of the list"; usual changes for each pattern: docs/ci.md, "Patterns"';
 /** @type {Style} */
 const PLAIN = { hasColor: false, width: 100, isTerminal: false };
@@ -76,7 +76,7 @@ function countsOf(listing) {
 }
 
 /**
- * The last line of all: how many problems there are by section, how many are known, what replays found, and whether the recordings lack something.
+ * The last line of all, as `1 problem (may throw: 1)`, which page-races.js and loads.js print with the name of the view: how many problems there are by section, how many are known, what replays found, and whether the recordings lack something.
  * @param {Listing} listing
  */
 function totalsOf(listing) {

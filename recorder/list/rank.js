@@ -62,7 +62,7 @@ const kindOf = ({ look, detail }) => (detail ? `${look} ${detail}` : look);
 const chanceOf = (look, judged) => (look.isIdle ? ASSUMED_OF_IDLE : shareOf(judged[kindOf(look)] || [0, 0], ASSUMED[look.comesAgain ? HARMLESS : look.part] ?? 0));
 
 /** @type {{[detail: string]: string}} */
-const OF_DETAIL = { '': '', choosing: ', of an event by which a user chooses,', element: ', of an element that is looked up,', read: ', of a field that is read later,' };
+const OF_DETAIL = { '': '', choosing: ', of an event by which a user chooses,', element: ', of an element that is looked up,', read: ', of a field that is read later,', one: ', of one act,' };
 
 /** @param {Look} look @param {Shares} shares */
 function reasonOf(look, shares) {

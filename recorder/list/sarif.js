@@ -27,7 +27,7 @@ const SAYS = {
   act: 'What a user\'s act wrote may be written over.',
   undefined: 'A read or a look-up may find nothing.',
   missed: 'An event of the page may find no handler.',
-  replies: 'An answer may overwrite a newer one.',
+  replies: 'An older reply may come after a newer one.',
   other: 'Two accesses to one location that nothing orders.',
   flag: 'Each side sets a flag and asks that of the other.',
   counter: 'Both sides count up, and neither uses the value.',

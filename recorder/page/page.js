@@ -6,6 +6,7 @@ import { withoutMarks } from './core/marks.js';
 import { replaceMethod, replacedFunctions } from './core/replacing.js';
 import { String, apply, getPrototypeOf } from './core/taken.js';
 import { sliceOf } from './core/strings.js';
+import { Definitions } from './accesses/definitions.js';
 import { Fields } from './accesses/fields.js';
 import { Globals } from './accesses/globals.js';
 import { Imports } from './accesses/imports.js';
@@ -34,6 +35,7 @@ import { Messages } from './events/messages.js';
 import { Motions } from './events/motions.js';
 import { Navigations } from './events/navigations.js';
 import { OnHandlers } from './events/on-handlers.js';
+import { Played } from './events/played.js';
 import { Queued } from './events/queued.js';
 import { Addresses } from './scripts/addresses.js';
 import { Broken } from './scripts/broken.js';
@@ -95,6 +97,7 @@ class Page {
     this.causes = new Causes(this);
     this.motions = new Motions(this);
     this.media = new Media(this);
+    this.played = new Played(this);
     this.navigations = new Navigations(this);
     this.guards = new Guards(this);
     this.handlers = new Handlers(this);
@@ -104,6 +107,7 @@ class Page {
     this.made = new Made(this);
     this.lookups = new Lookups(this);
     this.fields = new Fields(this);
+    this.definitions = new Definitions(this);
     this.joins = new Joins(this);
     this.chaos = new Chaos(this);
     this.timers = new Timers(this);
@@ -153,7 +157,7 @@ class Page {
     this.recording.elementNumbers.delete(this.window); // a frame's window stays the same object for its next page
     if (this.recording.objects) this.recording.objects.addWindow(this);
     this.#beginDocument();
-    const parts = [this.chaos, this.guards, this.handlers, this.onHandlers, this.capturing, this.calls, this.attributes, this.made, this.lookups, this.fields, this.causes, this.media, this.navigations, this.timers, this.callbacks,
+    const parts = [this.chaos, this.guards, this.handlers, this.onHandlers, this.capturing, this.calls, this.attributes, this.made, this.lookups, this.fields, this.definitions, this.causes, this.media, this.navigations, this.timers, this.callbacks,
       this.jobs, this.promises, this.observers, this.requests, this.endedRequests, this.connections, this.messages, this.reactions, this.clock, this.unseen];
     each(parts, (part) => part.start());
     this.#replaceToString();

@@ -215,6 +215,7 @@ class Loading {
     else this.loaded.add(target);
     this.recording.begin(`eload ${dispatch.number} ${number}`, 'begin');
     this.inOrder.begins(dispatch, target, later);
+    sources.missFrame(target);
     this.#noteAwaited(dispatch, number, tree.isParsing() && tree.lastParsed === number && sources.isEmptyFrame(target), later);
     return true;
   }
@@ -239,6 +240,7 @@ class Loading {
     const { scripts, dispatches } = this.page;
     const isOfScript = event.isTrusted && target.localName === 'script' && fits(/^(load|error)$/, event.type) && !this.loaded.has(target);
     if (!isElement(target) || !isOfScript) return false;
+    if (event.type === 'load') this.recording.unmarked.noteLoaded(target);
     this.recording.finishAll();
     if (!scripts.isRunning(target) && !scripts.runEmpty(target)) return false;
     this.loaded.add(target);

@@ -9,6 +9,8 @@ import { nameOfFunction } from '../log/values.js';
 
 /** The reactions that the browser calls for elements of the parser, and takes from the prototype before any other code of the page runs in `define`. */
 const REACTIONS = ['connectedCallback', 'attributeChangedCallback', 'formAssociatedCallback', 'formDisabledCallback'];
+/** Those that it calls only because of code, in which they are. */
+const OF_CODE = ['disconnectedCallback', 'adoptedCallback', 'formResetCallback', 'formStateRestoreCallback'];
 /** Those that the parser calls in the order of an upgrade. */
 const IN_ORDER = /^(connected|attributeChanged)Callback$/;
 /** `Node.DOCUMENT_POSITION_DISCONNECTED` and `.._FOLLOWING`. */
@@ -46,7 +48,7 @@ class Reactions {
     replaceMethod(CustomElementRegistry.prototype, 'define', (native) => function define(name, constructor) {
       const restores = reactions.recording.isOver ? [] : reactions.#watch(constructor);
       try {
-        if (this === customElements && typeof name === 'string') reactions.#noteDefinition(name);
+        if (this === customElements && typeof name === 'string') reactions.#noteDefinition(name, constructor);
         return apply(native, this, arguments);
       } finally {
         each(restores, (restore) => restore());
@@ -65,9 +67,11 @@ class Reactions {
    * What waits for an element's definition comes after it and what its event does until microtasks run, also if the definition is there already. An
    * earlier reaction at it is a later microtask.
    * @param {string} name of the element that is being defined
+   * @param {unknown} constructor
    */
-  #noteDefinition(name) {
-    const { recording, page: { promises, jobs, natives, number, window } } = this;
+  #noteDefinition(name, constructor) {
+    const { recording, page: { definitions, promises, jobs, natives, number, window } } = this;
+    definitions.noteDefinition(name, constructor);
     if (!promises.isSeen()) return;
     natives.queueMicrotask(() => {
       if (recording.isOver || !recording.isCheckpoint || recording.contexts.length || !apply(this.get, window.customElements, [name])) return;
@@ -105,7 +109,12 @@ class Reactions {
     /** @type {Former} */
     const former = { element: null, end: null };
     each(REACTIONS, (name) => {
-      const restore = name in prototype && this.#replaceReaction(prototype, name, fits(IN_ORDER, name) ? former : null);
+      const describe = (/** @type {Function} */ callback) => this.#describe(name, callback, fits(IN_ORDER, name) ? former : null);
+      const restore = name in prototype && this.#replaceReaction(prototype, name, (callback) => this.#wrap(callback, describe(callback)));
+      if (restore) restores[restores.length] = restore;
+    });
+    each(OF_CODE, (name) => {
+      const restore = name in prototype && this.#replaceReaction(prototype, name, (callback) => this.#wrapInside(callback));
       if (restore) restores[restores.length] = restore;
     });
     return restores;
@@ -115,11 +124,10 @@ class Reactions {
    * Puts a getter in the place of a reaction while the browser reads it: it gets a wrapped one. Returns what takes the getter away.
    * @param {object} prototype
    * @param {string} name
-   * @param {Former|null} former
+   * @param {(callback: Function) => Function} wrap
    * @returns {(() => void)|null} null if the page allows no other property there
    */
-  #replaceReaction(prototype, name, former) {
-    const reactions = this;
+  #replaceReaction(prototype, name, wrap) {
     const own = getOwnPropertyDescriptor(prototype, name);
     let isReplaced = true;
     const restore = () => {
@@ -128,7 +136,7 @@ class Reactions {
     const get = () => {
       restore();
       const callback = Reflect.get(prototype, name);
-      return typeof callback === 'function' ? reactions.#wrap(callback, reactions.#describe(name, callback, former)) : callback;
+      return typeof callback === 'function' ? wrap(callback) : callback;
     };
     if (own && !own.configurable) return null;
     return Reflect.defineProperty(prototype, name, { configurable: true, enumerable: !!own && own.enumerable, get }) ? restore : null;
@@ -155,10 +163,21 @@ class Reactions {
    */
   #wrap(callback, reaction) {
     const reactions = this;
-    const { recording } = this;
+    const { recording, page: { definitions } } = this;
     return function reacts() {
-      const call = () => apply(callback, this, arguments);
+      const call = () => definitions.inside(() => apply(callback, this, arguments));
       return recording.isOver || recording.isRunning() ? call() : reactions.#run(this, reaction, call);
+    };
+  }
+
+  /**
+   * @param {Function} callback
+   * @returns {import('../types').Method}
+   */
+  #wrapInside(callback) {
+    const { definitions } = this.page;
+    return function reacts() {
+      return definitions.inside(() => apply(callback, this, arguments));
     };
   }
 

@@ -1,7 +1,8 @@
 // What an element loads by a source that is set later than the element is made, and the further pages that a frame shows.
 
 import { fits } from '../core/strings.js';
-import { WeakMap } from '../core/taken.js';
+import { WeakMap, apply } from '../core/taken.js';
+import { HTML_NAMESPACE, documentOf } from '../core/things.js';
 
 /** Elements that can show a page of its own. */
 const SHOWS_PAGE = /^(i?frame|object|embed)$/;
@@ -170,6 +171,16 @@ class Sources {
     recording.log.name('document', inner, { frame: standIn });
     this.loads.set(frame, { number: standIn, inner: 0, isPassing });
     return inner;
+  }
+
+  /**
+   * A frame has loaded a page: that of another origin, also of a sandboxed frame, is not recorded. Called by loading.js.
+   * @param {Element} element
+   */
+  missFrame(element) {
+    if (element.localName !== 'iframe' || element.namespaceURI !== HTML_NAMESPACE) return;
+    const window = apply(this.page.natives.contentWindow, /** @type {HTMLIFrameElement} */ (element), []);
+    if (window && !documentOf(/** @type {import('../types').PageWindow} */ (window))) this.recording.log.miss('frames of another origin');
   }
 }
 

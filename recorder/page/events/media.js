@@ -24,16 +24,17 @@ class Media {
     this.recording = page.recording;
     /**
      * By element: who chose what is played.
-     * @type {WeakMap<HTMLMediaElement, Cause>}
+     * @type {WeakMap<HTMLMediaElement, import('./played.js').Loading>}
      */
     this.loading = new WeakMap();
     /**
-     * By element: whose call plays it, and whether its `play` event has come.
-     * @type {WeakMap<HTMLMediaElement, Cause & {hasBegun?: boolean}>}
+     * By element: whose call plays it.
+     * @type {WeakMap<HTMLMediaElement, import('./played.js').Playing>}
      */
     this.playing = new WeakMap();
     const { prototype } = page.window.HTMLMediaElement;
     this.paused = /** @type {(this: HTMLMediaElement) => boolean} */ (getOwnPropertyDescriptor(prototype, 'paused')?.get);
+    this.ended = /** @type {(this: HTMLMediaElement) => boolean} */ (getOwnPropertyDescriptor(prototype, 'ended')?.get);
   }
 
   start() {
@@ -49,6 +50,14 @@ class Media {
     return apply(this.paused, element, []);
   }
 
+  /**
+   * Whether an element plays, or has played to its end: then it is paused before its last `timeupdate` comes. Called by played.js.
+   * @param {HTMLMediaElement} element
+   */
+  plays(element) {
+    return !this.#isPaused(element) || apply(this.ended, element, []);
+  }
+
   // ---- causes
 
   /**
@@ -57,15 +66,16 @@ class Media {
    */
   noteLoading(element) {
     const moment = this.recording.moment();
-    if (moment) this.loading.set(element, { moment, isOfSeveral: true });
-    else this.loading.delete(element);
+    this.loading.set(element, { moment, isOfSeveral: true, isUnseen: !moment });
   }
 
   /** @param {HTMLMediaElement} element */
   #notePlaying(element) {
     const moment = this.recording.moment();
-    if (moment) this.playing.set(element, { moment, isOfSeveral: true });
+    const cause = moment ? { moment, isOfSeveral: true } : undefined;
+    if (cause) this.playing.set(element, cause);
     else this.playing.delete(element);
+    return cause;
   }
 
   /**
@@ -108,10 +118,14 @@ class Media {
   /**
    * What the page's text chose comes after the element alone.
    * @param {HTMLMediaElement} element
+   * @returns {import('./played.js').Loading}
    */
   #loadingOf(element) {
-    if (!this.loading.has(element)) this.loading.set(element, { moment: null, isOfSeveral: true });
-    return this.loading.get(element);
+    const known = this.loading.get(element);
+    if (known) return known;
+    const loading = { moment: null, isOfSeveral: true };
+    this.loading.set(element, loading);
+    return loading;
   }
 
   // ---- calls
@@ -141,8 +155,10 @@ class Media {
   #replacePlaying(owner) {
     const media = this;
     replaceMethod(owner, 'play', (native) => function play() {
-      if (isMedia(this) && media.#isPaused(this)) media.#notePlaying(this);
-      return apply(native, this, arguments);
+      const cause = isMedia(this) && media.#isPaused(this) ? media.#notePlaying(this) : undefined;
+      const promise = apply(native, this, arguments);
+      if (cause) media.page.played.notePromise(promise, cause);
+      return promise;
     });
     replaceMethod(owner, 'pause', (native) => function pause() {
       if (isMedia(this) && !media.#isPaused(this)) media.#expect(this, 'timeupdate', 'pause');
@@ -159,6 +175,7 @@ class Media {
     const seek = (/** @type {HTMLMediaElement} */ element) => {
       media.#expect(element, 'seeking', 'timeupdate');
       media.page.queued.noteAgain(element, 'seeked', media.recording.moment());
+      media.#loadingOf(element).isMoved = true;
     };
     replaceProperty(owner, 'currentTime', (native) => ({
       set(value) {

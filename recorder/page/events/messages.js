@@ -37,13 +37,20 @@ class Messages {
     });
     this.#replaceChannel(window);
     this.#replaceBroadcasts(window);
-    each(['Worker', 'SharedWorker'], (name) => replaceConstructor(window, name, () => { messages.recording.hasOtherSenders = true; }));
+    each(['Worker', 'SharedWorker'], (name) => replaceConstructor(window, name, () => messages.#noteWorker()));
     if (window.ServiceWorkerContainer) {
       replaceMethod(window.ServiceWorkerContainer.prototype, 'register', (native) => function register() {
-        messages.recording.hasOtherSenders = true;
+        messages.#noteWorker();
         return apply(native, this, arguments);
       });
     }
+  }
+
+  /** The page makes or registers a worker, whose own code is not recorded. */
+  #noteWorker() {
+    const { recording } = this;
+    recording.hasOtherSenders = true;
+    if (!recording.isOver) recording.log.miss('workers');
   }
 
   /**

@@ -158,6 +158,15 @@ class Queued {
   }
 
   /**
+   * Whether an event of a type is expected. Called by played.js.
+   * @param {EventTarget} target
+   * @param {string} type
+   */
+  expects(target, type) {
+    return findItem(this.waiting.get(target) || [], (one) => one.type === type) !== undefined;
+  }
+
+  /**
    * The expected event that has come, which is expected no longer. Called by media.js.
    * @param {{type: string}} event
    * @param {EventTarget} target
@@ -189,8 +198,11 @@ class Queued {
    */
   begin(dispatch) {
     const { event, target, number } = dispatch;
-    const cause = this.recording.steering.isTrusted(event) && this.#take(event, target);
-    if (!cause) return false;
+    const cause = this.recording.steering.isTrusted(event) ? this.#take(event, target) : undefined;
+    if (!cause) {
+      if (isMedia(target) && event.isTrusted) this.page.played.order(dispatch, target, cause);
+      return false;
+    }
     const { elements, joins } = this.page;
     const { moment } = cause;
     cause.standIn = cause.standIn || (moment ? elements.standInIn(moment, target, 'its cause') : elements.standIn(target, 'what it loads'));
@@ -198,6 +210,7 @@ class Queued {
     if (IN_ORDER.has(event.type)) this.#keepOrder(dispatch, cause, cause.last);
     else if (cause.before) this.#keepOrder(dispatch, cause, cause.before.last);
     else if (!cause.isOfSeveral) dispatch.whenClosed = () => { cause.last = this.recording.lastMoment(); };
+    if (isMedia(target)) this.page.played.order(dispatch, target, cause);
     joins.tellOf(dispatch);
     return true;
   }

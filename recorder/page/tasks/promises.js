@@ -7,6 +7,8 @@ import { replaceMethod } from '../core/replacing.js';
 import { sliceOf } from '../core/strings.js';
 import { WeakMap, apply, functionText, getOwnPropertyDescriptor, getPrototypeOf, hasOwn } from '../core/taken.js';
 import { isThing } from '../core/things.js';
+import { LEFT_OUT } from '../objects/holders.js';
+import { LONGEST_PROTOTYPE_CHAIN } from '../objects/kinds.js';
 
 /** Promises of several promises. Of `race` only the first one counts, and its reaction runs after it anyway. */
 const SEVERAL = ['all', 'allSettled', 'any'];
@@ -80,6 +82,7 @@ class Promises {
       const made = apply(native, this, [jobs.wrap(fulfilled, asked), jobs.wrap(rejected, ifRejected)]);
       asked.makes = made;
       ifRejected.makes = made;
+      if (typeof fulfilled !== 'function') promises.settled.set(made, { by: this }); // unless it is rejected, which `noteMade` notes
       return made;
     });
   }
@@ -196,7 +199,7 @@ class Promises {
    */
   noteFirst({ v: promise, moment, task }) {
     const { recording } = this;
-    if (!isThing(promise) || this.settled.has(promise) || !moment || task === recording.task) return;
+    if (!isThing(promise) || this.#settledIn(promise) || !moment || task === recording.task) return;
     if (recording.running.hasLateJobs || !recording.mayDispatch()) return;
     this.settled.set(promise, recording.point(this.page.number));
   }
@@ -215,7 +218,25 @@ class Promises {
     const end = this.page.earlierReactions.note(asked);
     if (!made) return;
     if (this.#isPromise(result)) this.settled.set(made, { by: result });
-    else if (!isThing(result) && recording.mayDispatch()) this.settled.set(made, end || recording.point(this.page.number));
+    else if (this.#settlesAtOnce(result) && recording.mayDispatch()) this.settled.set(made, end || recording.point(this.page.number));
+  }
+
+  /**
+   * Whether a reaction that returns something settles its promise at once: what has a `then` does so later. A proxy is asked nothing.
+   * @param {unknown} given
+   */
+  #settlesAtOnce(given) {
+    const { objects } = this.recording;
+    if (!isThing(given)) return true;
+    if (objects === null) return false;
+    /** @type {object|null} */
+    let at = given;
+    for (let depth = 0; at !== null && depth < LONGEST_PROTOTYPE_CHAIN; depth++) {
+      const holder = objects.kinds.holders.get(at);
+      if (holder?.kind === LEFT_OUT || hasOwn(at, 'then')) return false;
+      at = getPrototypeOf(at);
+    }
+    return at === null;
   }
 
   /**

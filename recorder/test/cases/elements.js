@@ -19,6 +19,12 @@ exports.cases = [
     ],
   },
   {
+    page: 'media-prototype.html',
+    words: ['--do', 'wait:200', '--do', 'click:#film'],
+    due: ['timer', 'w class of video#film', 'w style.width of video#film', 'r class of video#film', 'r style.width of video#film'],
+    races: ['click of video#film', 'class of video#film', 'style.width of video#film'],
+  },
+  {
     page: 'image-later.html',
     due: [
       'timer', 'w size', 'new img#dot image', 'eload img#dot', 'run loaded', 'r size',
@@ -154,6 +160,14 @@ exports.cases = [
   },
   { page: 'slot-change-late.html', due: ['parse script async', 'run slotted', 'w items'], races: ['#one', 'items'] },
   { page: 'custom-define.html', due: ['parse x-plain plain', 'parse x-heir plain', 'parse x-given plain'], races: [] },
+  // what needs a definition, and what does not
+  {
+    page: 'custom-needed.html',
+    due: ['timer', 'w customElements.x-menu', 'w customElements.x-other', 'timer', 'r customElements.x-late', 'timer', 'r customElements.x-menu', 'timer',
+      'r customElements.x-other', 'timer', 'r customElements.x-menu', 'timer', 'w customElements.x-late'],
+    races: ['customElements.x-late', 'customElements.x-menu', 'customElements.x-other'],
+  },
+  { page: 'custom-not-needed.html', due: ['timer', 'w customElements.x-menu', 'timer', 'w size of x-menu'], races: [] },
   {
     page: 'custom-constructor.html',
     due: ['on code whose caller is not seen', 'fire promise reactions code-1', 'run code whose caller is not seen', 'w made', 'parse x-tab#tab plain'],

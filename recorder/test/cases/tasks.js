@@ -135,6 +135,7 @@ exports.cases = [
     due: [
       'new Worker plain', 'fire Worker message', 'run answered', 'w answer',
     ],
+    losses: [/^workers: 1$/],
   },
   {
     page: 'worker-file.html',
