@@ -262,7 +262,8 @@ const corpora = new WeakMap();
  * @param {{without?: string, context?: string[]}} [more] an asked question that does not count, and words that count less
  * @returns {{modules: FoundModule[], rows: FoundRow[], missing: string[], wanted: Wanted[], same: string}} `same` is a question that was asked before, or ''
  */
-function rank(given, index, { without = '', context = [] } = {}) {
+function rank(given, index, more = {}) {
+  const { without = '', context = [] } = more;
   const corpus = corpora.get(index) || new Corpus(index);
   corpora.set(index, corpus);
   const { wanted, missing } = wordsOf(given, corpus);
