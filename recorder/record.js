@@ -138,7 +138,10 @@ function recorderFor(given, options) {
   return options.attach ? new AttachedRecorder(given, options, options.attach) : new Recorder(given, options);
 }
 
-/** @param {string[]} args */
+/**
+ * er_record. With `--attach` the other program loads the page, so only the file is given.
+ * @param {string[]} args
+ */
 async function main(args) {
   const { options, positionals, isHelp } = parseCommand('er_record', args);
   if (isHelp) return printHelp('er_record');

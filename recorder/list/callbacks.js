@@ -187,7 +187,7 @@ class Callbacks {
   }
 
   /**
-   * The last part of the address that a request is for; the whole path, where two sides are told apart. Called by sides.js.
+   * The last part of the address that a request is for; the whole path, where two sides are told apart. Called by race-facts.js.
    * @param {string} number
    */
   request(number) {

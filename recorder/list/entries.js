@@ -91,7 +91,7 @@ class Entries {
   }
 
   /**
-   * The place of a problem's first line. Called by listing.js.
+   * The place of a problem's first line. Called by entry-places.js.
    * @param {Listed} line
    */
   placeOf(line) {
@@ -179,7 +179,7 @@ class Entries {
   }
 
   /**
-   * The event of a race that looks for handlers, as `click at button "Save"`; '' if there is none. Called by replay-command.js.
+   * The event of a race that looks for handlers, as `click at button "Save"`; '' if there is none. Called by replay-results.js.
    * @param {number} run @param {number} race its index
    */
   eventOf(run, race) {

@@ -1,5 +1,5 @@
 'use strict';
-// The list as one object for other tools (docs/ci.md). The output of `--json`: its members and `format`.
+// The list as one object for other tools (docs/ci.md). The output of `--json`: its members (fields) and `format` (its version).
 
 const { placesOf, plainPlace } = require('./places.js');
 const { kindOf } = require('./verdicts.js');

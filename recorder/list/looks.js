@@ -170,14 +170,21 @@ class Looks {
     return isOfTwo && (isOver(0) || isOver(1)) ? lookOf('replies', 'an answer may overwrite a newer one') : null;
   }
 
-  /** @param {Race} race @param {number} act the side of the user's act */
+  /**
+   * A write over what an act of the user wrote; `act` is the side of the act.
+   * @param {Race} race
+   * @param {number} act the side of the user's act
+   */
   overAct({ location }, act) {
     const order = act === 0 ? 'here the user came first, and it was written over' : 'here the user came last';
     if (isField(location)) return lookOf('field', `a field written over what a user typed; ${order}`);
     return lookOf('act', `what a user's act wrote may be written over; ${order}`);
   }
 
-  /** @param {Race} race */
+  /**
+   * A write over what a user typed, before anything has read it; null if it is none.
+   * @param {Race} race
+   */
   typed(race) {
     if (!isField(race.location) || !isTypedOver(race, this.accesses, this.actions.list)) return null;
     return lookOf('field', `a field written over what a user typed, before it is read; here it was ${race.modes[0] === 'w' ? 'written' : 'read'} first`, 'read');
@@ -214,7 +221,10 @@ class Looks {
     return hasFound ? null : lookOf('undefined', `${what}: here nothing was found`, detail);
   }
 
-  /** @param {Race} race */
+  /**
+   * A variable that each action writes whole before it reads it: whichever comes first, nothing is lost. Null if it is none.
+   * @param {Race} race
+   */
   scratch({ location, modes, lines, actions }) {
     const { kept } = this.accesses;
     const isOwn = lines.every((line, k) => modes[k] === 'w' || kept[line] || this.accesses.isWrittenBefore(location, actions[k], line));

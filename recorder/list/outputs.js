@@ -57,7 +57,10 @@ function noneInWords(listing, isComplete, { done = '', unserved = '' }) {
   return `${recorded}${unserved && (isComplete ? `, but ${unserved}` : `; ${unserved}`)}.${done && ` Done in the page: ${done}.`}`;
 }
 
-/** @param {Listing} listing */
+/**
+ * The lines after the list: known problems that are there, and those that no recording had.
+ * @param {Listing} listing
+ */
 function knownLines(listing) {
   const known = listing.knownLines();
   const head = known.length ? [`Known, in ${listing.known?.file}:`] : [];
@@ -90,7 +93,10 @@ function totalsOf(listing) {
     ...(replays ? [replays] : []), ...incompleteInWords(listing)].join(', ');
 }
 
-/** @param {Listing} listing */
+/**
+ * How many recordings lack something of what was to be recorded, at the end of the last line.
+ * @param {Listing} listing
+ */
 function incompleteInWords({ runs }) {
   const count = runs.filter(({ notComplete }) => notComplete.length).length;
   if (!count) return [];

@@ -173,7 +173,11 @@ class Problems {
     return worst;
   }
 
-  /** @param {Problem} one @param {number|undefined} race */
+  /**
+   * A problem has the pattern of a race that it covers, if that is worse.
+   * @param {Problem} one
+   * @param {number|undefined} race
+   */
   lookAs(one, race) {
     if (race === undefined || !isWorse(this.ofRaces[race].look, one.look)) return;
     const { look } = this.ofRaces[race];

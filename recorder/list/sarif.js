@@ -129,6 +129,7 @@ function invocationsOf({ runs }) {
 }
 
 /**
+ * The list as SARIF: a rule for each pattern, a result for each problem.
  * Called by outputs.js.
  * @param {Listing} listing
  * @param {SarifFacts} facts

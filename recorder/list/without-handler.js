@@ -36,7 +36,7 @@ function elementOf(words, number) {
 }
 
 /**
- * The address to which an element leads, if it is a link; '' for one that only code uses. Called by list/looks.js.
+ * The address to which an element leads, if it is a link; '' for one that only code uses.
  * @param {import('../races/words.js').Words} words @param {string|number} number
  */
 function addressOf(words, number) {

@@ -28,7 +28,7 @@ function helpersOfWorld(window) {
   const first = (/** @type {Value} */ object) => object;
   const fo = (/** @type {Value} */ object, /** @type {string} */ name, /** @type {number} */ site, /** @type {Value} */ value) => value;
   return {
-    ...helpersOfObjects(objects), r: nothing, w: third, u: third, U: third, ro: first, wo: first, uo: first, fo, made: first, po: first, aw: first, ao: first, ai: first, ap: first,
+    ...helpersOfObjects(objects), r: nothing, w: third, u: third, U: third, ro: first, wo: first, uo: first, fo, made: first, un: first, po: first, aw: first, ao: first, ai: first, ap: first,
     as: nothing, scriptBegins: nothing, scriptEnds: nothing, lines, act,
   };
 }

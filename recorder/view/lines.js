@@ -32,7 +32,7 @@ function countsOf(lines) {
 }
 
 /**
- * The lines of what is not known.
+ * The lines of what is not known. Called by html.js.
  * @param {{problems: number, entries?: number}} counts
  */
 const entriesOf = ({ problems, entries = problems }) => entries;
@@ -51,7 +51,7 @@ function linesOf(listing, problems) {
 
 /**
  * A model with the lines of the list as that is after replays, which move problems and add what they found. The list can be one of several runs; the model is
- * that of the first. Called by replay-command.js.
+ * that of the first. Called by replay-results.js.
  * @template {Pick<import('./types').ViewModel, 'totals'|'problems'|'listed'>} M
  * @param {M} model
  * @param {Listing} listing

@@ -78,8 +78,10 @@ class CallMarks extends ValueMarks {
     else if (ASKS_FOR_NAME.has(nameOf(callee)) && isValue(node.arguments[0]) && !FRESH.has(callee.object.type) && !mayEndBefore(callee.object)) this.callAsking(node, callee, scope);
     else {
       this.visit(callee, scope);
-      const close = this.markPosting(node);
+      const close = this.markMaking(node, scope);
+      const closePosting = this.markPosting(node);
       this.visitArguments(node, callee, scope);
+      closePosting();
       close();
     }
   }
@@ -141,6 +143,7 @@ class CallMarks extends ValueMarks {
   // ---- what the arguments of a call are read for
 
   /**
+   * The arguments of a call: some functions of JavaScript take whole objects or keys of them (`hasOwnProperty`, `Object.keys`, `call`).
    * @param {CallExpression} node
    * @param {MemberExpression} callee
    * @param {Scope} scope

@@ -47,6 +47,22 @@ function isPosting(callee) {
   return name === 'postMessage' || ((name === 'call' || name === 'apply') && isPosting(callee.object));
 }
 
+/** Names by which code has the window. */
+const WINDOWS = new Set(['window', 'self', 'globalThis', 'top', 'parent', 'frames']);
+
+/**
+ * Whether a call makes code of a text: of `eval` or `Function`, also as `(0, eval)(x)` and `window.eval(x)`.
+ * @param {Node} callee
+ * @param {Scope} scope
+ * @returns {boolean}
+ */
+function isMaking(callee, scope) {
+  const isMaker = (/** @type {string|null} */ name) => name === 'eval' || name === 'Function';
+  if (callee.type === 'SequenceExpression') return isMaking(callee.expressions[callee.expressions.length - 1], scope);
+  if (callee.type === 'Identifier') return isMaker(callee.name) && scope.where(callee.name) !== 'local';
+  return callee.type === 'MemberExpression' && isMaker(knownProperty(callee)) && callee.object.type === 'Identifier' && WINDOWS.has(callee.object.name);
+}
+
 class Marks extends StatementMarks {
   /**
    * @param {string} code
@@ -171,7 +187,7 @@ class Marks extends StatementMarks {
     super.AssignmentExpression(node, scope);
   }
 
-  /** Whether the write may come in another action than the read, or not at all. */
+  /** Whether the write may come in another action than the read, or not at all. Called by closure-marks.js, value-marks.js and window-marks.js. */
   isApart(/** @type {AssignmentExpression} */ { operator, right }) {
     return LOGICAL.test(operator) || (operator !== '=' && this.waits && mayWait(right));
   }
@@ -251,15 +267,21 @@ class Marks extends StatementMarks {
     close();
   }
 
-  /** Code that is made of a text has no marks: that there is such code is reported. */
+  /** Code that is made of a text has no marks: that there is such code is reported. Called by member-marks.js. */
   markMaking(/** @type {CallExpression|NewExpression} */ { callee, arguments: args }, /** @type {Scope} */ scope) {
-    const isMaker = callee.type === 'Identifier' && (callee.name === 'eval' || callee.name === 'Function') && scope.where(callee.name) !== 'local';
     const last = args[args.length - 1];
-    return isMaker && last && last.type !== 'SpreadElement' ? this.inserter.wrap(last, '__er.made(', ')') : nothing;
+    return isMaking(callee, scope) && last && last.type !== 'SpreadElement' ? this.inserter.wrap(last, '__er.made(', ')') : nothing;
+  }
+
+  /** Names in a `with` have no marks. */
+  WithStatement(/** @type {import('../syntax/types').WithStatement} */ node, /** @type {Scope} */ scope) {
+    const close = this.inserter.wrap(node.object, '__er.un(', ')');
+    super.WithStatement(node, scope);
+    close();
   }
 
   /**
-   * `w.postMessage(x)` becomes `w.postMessage(call(x))`: the last argument says which window's code posts, directly before the call.
+   * `w.postMessage(x)` becomes `w.postMessage(call(x))`: the last argument says which window's code posts, directly before the call. Called by call-marks.js.
    * @param {CallExpression} node
    */
   markPosting({ callee, arguments: args }) {

@@ -19,7 +19,8 @@
 //                with `--keep`        L a literal, F the first value of a closure variable
 // awaits.js      `await`              as keeps who waits, aw takes the promise, ao the value with which the code goes on
 // runs.js        runs                 scriptBegins and scriptEnds, module.., handler.. (of an attribute), address.. (`javascript:`): a run begins, ends
-//                                     ai the name in `import()`, ap its promise; made: the text of `eval` and `new Function`; po: the last argument of `postMessage`
+//                                     ai the name in `import()`, ap its promise; made: the text of `eval` and `new Function`; un: the object of a `with`;
+//                                     po: the last argument of `postMessage`
 // helpers.js     `t` is no helper: marks keep an object there for the next mark.
 
 /**
@@ -27,7 +28,7 @@
  * that is not recorded, and a worker, have helpers that do this only.
  */
 const ANSWERS = [
-  'ro wo uo p q b B g m n i e d o L made po ai ap aw ao',
+  'ro wo uo p q b B g m n i e d o L made un po ai ap aw ao',
   'k l j J h a c D sk',
   'w u U',
   'wh uh Uh wm um fo f fk z F',

@@ -54,6 +54,7 @@ const CHOOSING = new Set(['click', 'dblclick', 'change', 'input', 'submit']);
 const COMES_AGAIN = /^(?:mouse|pointer)(?:over|out|enter|leave|move|rawupdate)$/;
 
 /**
+ * A part of a pattern whose share of harm was judged apart (../rank.js).
  * Called by list/looks.js.
  * @param {LookKey} look
  * @param {string} word the first word of the race's location

@@ -1,6 +1,6 @@
 // The browser's own functions, taken before any script of the page can change them. Getters and methods of the DOM, as `addEventListener`, `querySelector`.
 
-import { apply, getOwnPropertyDescriptor } from './taken.js';
+import { Object, Symbol, apply, getOwnPropertyDescriptor } from './taken.js';
 import { takeFirst } from './lists.js';
 
 /**
@@ -29,6 +29,7 @@ function takeNatives(window) {
     getAttributeNames: Element.prototype.getAttributeNames,
     getElementsByTagName: Element.prototype.getElementsByTagName,
     remove: Element.prototype.remove,
+    unscopables: Object.keys(/** @type {any} */ (Element.prototype)[Symbol.unscopables]),
     contains: Node.prototype.contains,
     matches: Element.prototype.matches,
     getAnimations: Document.prototype.getAnimations,

@@ -238,9 +238,10 @@ class Dispatches {
    * @param {number} handler
    * @param {Event|undefined} event
    * @param {EventTarget} current
+   * @param {'handler'|'attribute'} kind
    * @returns {Dispatch|null} what `handlerEnds` takes
    */
-  handlerBegins(handler, event, current) {
+  handlerBegins(handler, event, current, kind = 'handler') {
     const { recording } = this;
     if (recording.isOver || !event || !event.type) return this.#unrecorded();
     const found = this.find(event);
@@ -258,7 +259,7 @@ class Dispatches {
       joined([dispatch.beginning, this.registrars.get(handler)], dispatch.toldEvents));
     recording.running.awaits = dispatch.awaits;
     recording.noteInside(dispatch);
-    recording.enter('handler');
+    recording.enter(kind);
     return dispatch;
   }
 
@@ -275,6 +276,7 @@ class Dispatches {
 
   /** A handler runs that is in no dispatch: `handlerEnds` leaves this call. */
   #unrecorded() {
+    this.recording.unmarked.noteInPiece();
     this.recording.enter('call');
     return null;
   }

@@ -3,6 +3,7 @@
 import { MADE_OF_TEXT } from '../log/log.js';
 
 /**
+ * The helpers at the start and the end of scripts, modules and `javascript:` addresses.
  * Called by helpers.js.
  * @param {import('../types').Page} page
  */
@@ -27,7 +28,13 @@ function helpersOfScripts({ addresses, globals, insertedModules, messages, modul
     /** @type {(promise: Promise<unknown>) => Promise<unknown>} */
     ap: (promise) => modules.noteImport(promise),
     /** @type {(text: unknown) => unknown} */
-    made: (text) => { recording.log.miss(MADE_OF_TEXT); return text; },
+    made: (text) => {
+      recording.log.miss(MADE_OF_TEXT);
+      recording.unmarked.noteText(text);
+      return text;
+    },
+    /** @type {(object: unknown) => unknown} */
+    un: (object) => { recording.unmarked.noteAnywhere(); return object; },
     /** @type {(word: unknown) => unknown} */
     po: (word) => { recording.poster = messages; return word; },
     /** @type {(script: Element) => void} */

@@ -111,9 +111,9 @@ class Kinds {
    * @param {object} object that has a constructor
    */
   meetPrototype(object) {
-    const maker = getOwnPropertyDescriptor(object, 'constructor');
-    if (!maker || typeof maker.value !== 'function' || !this.#isNative(maker.value)) return undefined;
-    return getOwnPropertyDescriptor(maker.value, 'prototype')?.value === object ? this.holdPrototype(object) : undefined;
+    const maker = getOwnPropertyDescriptor(object, 'constructor')?.value;
+    if (typeof maker !== 'function' || !this.#isNative(maker)) return undefined;
+    return getOwnPropertyDescriptor(maker, 'prototype')?.value === object ? this.holdPrototype(object) : undefined;
   }
 
   /** @param {Function} maker */

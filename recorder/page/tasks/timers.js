@@ -46,6 +46,7 @@ class Timers {
     this.ran = [];
   }
 
+  /** Hooks timers, frames and idle callbacks. One call per document, before its code runs. */
   start() {
     const { window } = this.page;
     this.#replaceTimeout(window);
@@ -86,6 +87,7 @@ class Timers {
     if (typeof callback === 'function') return callback;
     const code = String(callback);
     this.recording.log.miss(MADE_OF_TEXT);
+    this.recording.unmarked.noteText(code);
     const { window } = this.page;
     return () => this.#evaluate(window, code);
   }

@@ -43,6 +43,13 @@ exports.cases = [
   { page: 'put-back.html', due: ['timer', 'timer'] },
   { page: 'made-code.html', words: CLICK, due: ['exec script', 'w byFunction', 'w byExpression', 'w byEval', 'timer', 'w byTimer', 'run click', 'w byHandler'],
     races: ['click of button'], losses: [/^code that is made of a text.*: 3$/, /^handler attributes that scripts set.*: 1$/] },
+  // code without marks, in callbacks: what it writes is found in the piece that it is in (page/recording/unmarked.js)
+  { page: 'unmarked-attribute.html', words: CLICK, due: ['on click', 'run click', 'w after', 'w remove', 'close'], races: ['after', 'remove'] },
+  { page: 'unmarked-calls.html', due: ['timer', 'w assigned', 'timer', 'w defined', 'timer', 'w settled', 'timer', 'w within'], races: [] },
+  { page: 'unmarked-text.html', due: ['timer', 'w indirectly', 'w later', 'timer', 'w indirectly', 'w late'], losses: [/^code that is made of a text.*: 1$/] },
+  { page: 'unmarked-member-text.html', due: ['timer', 'w made'], losses: [/^code that is made of a text.*: 1$/] },
+  { page: 'unmarked-data.html', due: ['timer', 'eload script', 'run loaded', 'w ofData', 'close', 'tick', 'w ofDataAgain'] },
+  { page: 'unmarked-set.html', words: CLICK, due: ['run click', 'w bySet', 'close', 'timer', 'w soonBySet'], races: ['click of button#go'] },
   { page: 'inline-inserted.html', due: ['exec script', 'w got'], losses: [/^code that is made of a text.*: 3$/] },
   { page: 'frozen-builtins.html', due: ['timer', 'w total of cart', 'timer', 'r total of cart'], races: ['total of cart', '[a] of kept'] },
   { page: 'replaced-builtins.html', due: ['timer', 'w total of cart', 'timer', 'r total of cart'], never: ['w called'], races: ['total of cart', '[a] of kept'] },

@@ -119,6 +119,7 @@ function inWords(found) {
   return `${problems}: ${counted(new Set(groups.map(({ number }) => number)).size, 'group')} with ${counted(races, 'race')}`;
 }
 
+/** Draws the list again: at the start, and when the reader changes the filter or the order. */
 function render() {
   const found = filtered();
   const order = control('order').value;
@@ -129,6 +130,7 @@ function render() {
   control('groups').replaceChildren(...boxes, ...fold('section', known, make('h2', {}, 'known'), make('span', { class: 'size' }, counted(known.length, 'problem'))));
 }
 
+/** Called once, when the page of the view is there. */
 function start() {
   ['kind', 'order'].forEach((id) => control(id).addEventListener('change', render));
   control('text').addEventListener('input', render);
