@@ -1,5 +1,5 @@
 'use strict';
-// Code that is marked before the page's own comes, so that its first script does not wait for a cold program.
+// Warms up the instrumenter: marks code before the page's own comes, so that its first script does not wait for a cold program.
 
 const fs = require('node:fs');
 const { instrument } = require('./instrument.js');

@@ -10,6 +10,18 @@ import { LONGEST_PROTOTYPE_CHAIN, isAccessor } from './kinds.js';
 
 const { keepsAll } = settings;
 
+/**
+ * Whether an object has a constructor of its own, as a prototype has. A window of another origin answers only for few names, and throws for others.
+ * @param {object} object
+ */
+function hasConstructor(object) {
+  try {
+    return hasOwn(object, 'constructor');
+  } catch {
+    return false; // a window of another origin
+  }
+}
+
 /** One for each recording: `recording.objects.properties`. */
 class Properties {
   /** @param {import('../types').Objects} objects */
@@ -29,7 +41,7 @@ class Properties {
    */
   access(object, name, modes, site) {
     const { kinds, variables } = this;
-    const known = kinds.holders.get(object) || (hasOwn(object, 'constructor') ? kinds.meetPrototype(object) : undefined);
+    const known = kinds.holders.get(object) || (hasConstructor(object) ? kinds.meetPrototype(object) : undefined);
     if (known !== undefined && (known.kind === LEFT_OUT || (modes === 'w' && known.maker === this.recording.actions && !keepsAll))) return;
     if (typeof name === 'string' && name[0] === '#' && name.length > 1) {
       variables.touchModes(kinds.hold(object, site), name, modes, site);
