@@ -259,7 +259,7 @@ const corpora = new WeakMap();
  * The modules and the rows that fit the words, the best first; modules of tests last. `missing` has the words that nothing has.
  * @param {string[]} given
  * @param {Index} index
- * @param {{without?: string, context?: string[]}} [more] an asked question that does not count, and words that count less
+ * @param {{without?: string, context?: string[]}} more an asked question that does not count, and words that count less
  * @returns {{modules: FoundModule[], rows: FoundRow[], missing: string[], wanted: Wanted[], same: string}} `same` is a question that was asked before, or ''
  */
 function rank(given, index, more = {}) {
