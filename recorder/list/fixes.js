@@ -46,6 +46,7 @@ const FIXES = {
   replies: 'if each reply replaces what is shown: discard a reply to an older request (number the requests, or abort the older one); if the replies add to one another: none',
   other: `${IF}let one side wait for the other, or check that it is still wanted`,
   flag: 'usually none: the side that comes last sees the flag of the other',
+  ended: 'usually none: after that code the callback does not run',
   counter: 'usually none: the count is the same in both orders',
   ticks: 'usually none: browsers keep this order',
   same: 'usually none: the value is the same in both orders',

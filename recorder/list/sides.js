@@ -205,6 +205,7 @@ class Sides {
   leading({ modes, actions }, look) {
     const reader = modes.indexOf('r');
     if (look === 'late' || look === 'missed') return 1 - reader;
+    if (look === 'ended') return 1 - (this.problems.ended.of({ actions })?.side ?? 0);
     if (look === 'field' || look === 'act') return this.problems.userActs.actOf(actions[0]) ? 1 : 0;
     return Math.max(reader, 0);
   }
@@ -221,9 +222,9 @@ class Sides {
     const at = sides[0].own || sides[1].own || sides[0].at || sides[1].at;
     const thing = kind === 'handler' ? this.thing(race.location) : marked(this.thing(race.location));
     const subjects = this.callbacks.subjects(race.actions[first], race.actions[1 - first]);
-    const event = this.lookUpOf(race);
-    const ofOneAct = this.problems.userActs.ofOneAct(race.actions);
-    const facts = { sides, subjects, thing, ofOneAct, field: this.field(race.location), modes: race.modes, kind, isReplaced: this.problems.isReplaced(race), otherwise: event.otherwise };
+    const [event, ofOneAct] = [this.lookUpOf(race), this.problems.userActs.ofOneAct(race.actions)];
+    const ended = this.problems.ended.inWords(race, this.callbacks, (line) => this.place(this.words.placeOfLine(line), false));
+    const facts = { sides, subjects, thing, ofOneAct, field: this.field(race.location), modes: race.modes, kind, isReplaced: this.problems.isReplaced(race), otherwise: event.otherwise, ended };
     return { sentence: sentenceOf(look, facts), place: at ? this.place(at, false) : this.page(), sides, call: callOf(this.words, race), fix: fixOf(look, { kind, isOfUser: !!sides[0].act, modes: race.modes, isOfOneAct: !!ofOneAct, isInLibraries: this.isInLibraries(race), ...event }) };
   }
 

@@ -17,8 +17,9 @@ class IdleHandlers {
    * @param {import('../types').Names} names
    * @param {import('../../races/actions.js').Actions} actions
    */
-  constructor({ elements }, actions) {
+  constructor({ elements, handlers }, actions) {
     this.elements = elements;
+    this.handlers = handlers;
     this.actions = actions;
     /** @type {Map<string, number>} by dispatch and handler, the first action that runs it */
     this.runs = new Map();
@@ -50,7 +51,15 @@ class IdleHandlers {
     const { list, lines } = this.actions;
     const next = list[run + 1];
     if (!next || !['run', 'close'].includes(next.words[0]) || next.words[1] !== list[run].words[1]) return false;
-    return lines.slice(list[run].line, next.line - 1).every((line) => line.startsWith('r '));
+    return lines.slice(list[run].line, next.line - 1).every((line) => line.startsWith('r ') || this.isEnd(line));
+  }
+
+  /**
+   * Whether a line stands for a call that clears a callback which has run.
+   * @param {string} line
+   */
+  isEnd(line) {
+    return line.startsWith('on ') && this.handlers[line.slice(3)]?.ends !== undefined;
   }
 
   /**
