@@ -5,7 +5,7 @@ const fs = require('node:fs');
 const path = require('node:path');
 const { eachAtOnce } = require('./common/at-once.js');
 const { STATUS } = require('./common/status.js');
-const { makeFolder, writeWhole, WriteFault } = require('./common/whole-file.js');
+const { faultOf, makeFolder, writeWhole } = require('./common/whole-file.js');
 const { print, printError } = require('./common/output.js');
 const { junitOf } = require('./list/loads-junit.js');
 const { LoadsListing } = require('./list/loads-listing.js');
@@ -113,7 +113,7 @@ function copyViews(judged, folder) {
     try {
       fs.copyFileSync(besides(file, '.html'), path.join(folder, name), fs.constants.COPYFILE_FICLONE);
     } catch (fault) {
-      throw new WriteFault(`${path.join(folder, name)} cannot be written: ${fault instanceof Error ? fault.message : fault}`);
+      throw faultOf(path.join(folder, name), fault);
     }
     return name;
   });

@@ -1,22 +1,20 @@
 'use strict';
-// Races replayed by a command: which of them, what is printed about each, and the files that are written.
+// Races replayed by a command: which of them, and for how long. What is reported: replay-results.js.
 
-const { print, printError } = require('./common/output.js');
+const { printError } = require('./common/output.js');
 const { changing } = require('./browser/changing.js');
 const { allOf } = require('./common/at-once.js');
-const { jsonText, shown, withoutCommands } = require('./common/shown.js');
-const { redactedObject, redactedValue } = require('./common/secrets.js');
+const { shown } = require('./common/shown.js');
 const { STATUS } = require('./common/status.js');
-const { writeWhole } = require('./common/whole-file.js');
 const { stoppable } = require('./common/stoppable.js');
 const { answersAtOnce, programState } = require('./races/program.js');
 const { RecordingFault } = require('./recording/recorder.js');
 const { Replay, isStop } = require('./replay/replay.js');
 const { MOST_BY_ITSELF, LONGEST_BY_ITSELF } = require('./replay-by-itself.js');
-const { verdictInWords, verdictOf, worstOf, orderOfResults, groupInWords, plain, VERDICTS } = require('./replay/verdict.js');
+const { leftOutInWords } = require('./replay-left-out.js');
 const { ReplayProgress } = require('./replay-progress.js');
-const { besides, writePage } = require('./view.js');
-const { arranged } = require('./view/lines.js');
+const { ReplayResults, raceOf } = require('./replay-results.js');
+const { writePage } = require('./view.js');
 
 /** @typedef {import('./races/types').Report} Report */
 /** @typedef {import('./list/listing.js').Listing} Listing */
@@ -31,12 +29,6 @@ const { arranged } = require('./view/lines.js');
  * What is known of the recorded run; `linked` is the model with all of the view's links.
  * @typedef {{report: Report, model: Shown, linked: Promise<Shown>, listing: Listing}} Judged
  */
-
-/** @typedef {{number: number, result: Parameters<typeof plain>[0]}} Result of the race with this number */
-
-const PREFIXES = /^(turned: differs|could not be turned|turned): /;
-
-const ONLY_OTHERS = 'no (only other problems were replayed)';
 
 /** How many races are replayed if nobody says so. */
 const MOST_IF_REQUESTED = 20;
@@ -57,22 +49,6 @@ function canReplay(command) {
   return answersAtOnce();
 }
 
-/**
- * The number of the race by which a problem is listed.
- * @param {{races: number[], first?: number}} problem
- */
-const raceOf = ({ races, first }) => (first ?? races[0]) + 1;
-
-/**
- * The first line of a race's entry in the list; its number if it has none.
- * @param {Listing} listing
- * @param {number} number
- */
-function lineOf(listing, number) {
-  const told = listing.told().find(({ line: problem }) => raceOf(problem) === number);
-  return told ? `${listing.summaryOf(told.line)}:` : `race ${number}:`;
-}
-
 /** @param {number} atOnce */
 const inWords = (atOnce) => (atOnce > 1 ? `${atOnce} runs of the page at once` : 'one run of the page after the other');
 
@@ -91,13 +67,7 @@ class ReplayCommand {
     this.model = model;
     this.linked = linked;
     this.listing = listing;
-    /** @type {Result[]} */
-    this.results = [];
-  }
-
-  /** @param {string} line */
-  print(line) {
-    (this.options.isJson ? printError : print)(withoutCommands(line));
+    this.results = new ReplayResults({ report, model, linked, listing }, traceFile, options);
   }
 
   /**
@@ -108,11 +78,15 @@ class ReplayCommand {
     printError(`${this.options.name}: ${text}`);
   }
 
-  /** The races that are requested: by their numbers, else the first of each line of the list. By itself, known ones are not replayed. */
+  /**
+   * The races that are requested: by their numbers, else the first of each line of the list that the first run has, since that is run again. By itself, known
+   * ones are not replayed.
+   */
   wanted() {
     const { races, isReplayed } = this.options;
     const told = this.listing.told().map(({ line }) => line);
-    const numbers = races.length ? races : [...told, ...isReplayed ? this.listing.knownLines() : []].map(raceOf);
+    const lines = [...told, ...isReplayed ? this.listing.knownLines() : []].filter(({ run }) => run === 0);
+    const numbers = races.length ? races : lines.map(raceOf);
     /** @param {number} number */
     const isThere = (number) => !!this.report.races[number - 1];
     const wrong = numbers.find((number) => !isThere(number));
@@ -130,9 +104,12 @@ class ReplayCommand {
     return this.wanted().slice(0, this.most());
   }
 
-  /** What the list says of a problem without a verdict: `--most` leaves it out only if there are more races. */
-  noteLeftOut() {
-    if (this.wanted().length <= this.most()) this.listing.entries.notReplayedWords = ONLY_OTHERS;
+  /**
+   * Has the list say why a problem was not replayed.
+   * @param {string} why
+   */
+  noteLeftOut(why) {
+    this.listing.entries.notReplayedWords = (line) => leftOutInWords(line, this.options, this.traceFile, why);
   }
 
   /** Whether the page is allowed to load again and again. Requests that might change something on a server need `--yes`. */
@@ -160,21 +137,21 @@ class ReplayCommand {
     }
     const replay = new Replay(this.recorder, this.options, this.traceFile, this.report);
     let status = STATUS.ok;
-    this.noteLeftOut();
+    this.noteLeftOut(`not among the first ${this.most()}`);
     const limit = this.limit(replay);
     try {
       await stoppable(() => replay.interrupt(), () => this.replayEach(replay));
     } catch (fault) {
       if (!(fault instanceof RecordingFault)) throw fault;
       const isOver = limit.isReached && isStop(fault);
-      this.complain(isOver ? `replays ended after ${LONGEST_BY_ITSELF / 1000} s, with ${this.results.length} of ${this.numbers().length} races done; --replay does all` : fault.message);
-      if (isOver) this.listing.entries.notReplayedWords = `no (${LONGEST_BY_ITSELF / 1000} s were over; --replay does all)`;
+      this.complain(isOver ? `replays ended after ${LONGEST_BY_ITSELF / 1000} s, with ${this.results.all.length} of ${this.numbers().length} races done; --replay does all` : fault.message);
+      this.noteLeftOut(isOver ? `${LONGEST_BY_ITSELF / 1000} s were over` : 'the replays were stopped');
       status = isOver ? STATUS.ok : fault.status;
     } finally {
       limit.end();
       await replay.close();
     }
-    await this.printResults(replay);
+    await this.results.tell(replay, this.numbers().length);
     return status;
   }
 
@@ -206,8 +183,7 @@ class ReplayCommand {
     const goOn = async () => {
       for (let number = left.shift(); number !== undefined; number = left.shift()) {
         const result = await replay.reverse(this.report.races[number - 1], number);
-        this.results.push({ number, result });
-        progress.print(number, `${lineOf(this.listing, number)} ${VERDICTS[verdictOf(result)]}`);
+        progress.print(number, this.results.add(number, result));
       }
     };
     try {
@@ -215,59 +191,6 @@ class ReplayCommand {
     } finally {
       progress.end();
     }
-  }
-
-  /**
-   * Reports what came of all: in lines, in page.replay.json and in the view.
-   * @param {Replay} replay
-   */
-  async printResults(replay) {
-    for (const { number, result } of this.results) result.chance = replay.recorded.orders.chanceOf(this.report.races[number - 1]);
-    this.results.sort(orderOfResults);
-    const isInList = this.options.name === 'er_page' && !this.options.isJson; // the list comes next, and has each result
-    this.lines().slice(isInList ? -1 : 0).forEach((line) => this.print(line));
-    const races = redactedObject(this.results.map(({ number, result }) => plain(result, this.report.races[number - 1], number, (one) => this.listing.placeOfRace(0, one - 1), this.listing.entries.eventOf(0, number - 1))));
-    this.listing.setVerdicts(0, races);
-    this.write(replay, races, await this.linked);
-  }
-
-  /** What is printed about all replayed races, and is in the file of verdicts. */
-  lines() {
-    const requested = this.numbers().length;
-    const races = `${requested} race${requested === 1 ? '' : 's'}`;
-    if (!this.results.length) return [`Replayed 0 of ${races}.`];
-    const lines = ['Run again in the other order:'];
-    let part = '';
-    for (const { number, result } of this.results) {
-      const verdict = verdictOf(result);
-      if (verdict !== part) lines.push(`-- ${VERDICTS[verdict]}`);
-      part = verdict;
-      const worst = worstOf(result);
-      const group = groupInWords(result.group);
-      const words = verdictInWords(result).replace(PREFIXES, ''); // the part says it
-      lines.push(`${lineOf(this.listing, number)} ${worst ? `${worst.name}: ` : ''}${words}${group ? `; ${group}` : ''}`);
-    }
-    /** @param {string} verdict */
-    const count = (verdict) => this.results.filter(({ result }) => verdictOf(result) === verdict).length;
-    return [...lines, `Replayed ${this.results.length} of ${races}: ${count('differs')} differ, ${count('not')} could not be turned, ${count('same')} have no visible difference.`];
-  }
-
-  /**
-   * Writes what the replay found.
-   * @param {Replay} replay
-   * @param {ReturnType<typeof plain>[]} races
-   * @param {Shown} model
-   */
-  write(replay, races, model) {
-    const unsteady = replay.unsteady.map(({ kind, subject }) => ({ kind, subject }));
-    writeWhole(besides(this.traceFile, '.replay.json'), `${jsonText({ replay: 1, page: replay.recorder.given, races, unsteady }, 1, redactedValue)}\n`);
-    const pictures = this.results.map(({ result }) => result.picture || null);
-    const groups = redactedObject(this.results.map(({ result }) => groupInWords(result.group)));
-    const replays = races.map((race, k) => {
-      const shownRace = { ...race, differences: race.differences || [], trace: race.trace || '', picture: pictures[k], groupWords: groups[k] };
-      return /** @type {import('./view/types').ShownReplay} */ (shownRace);
-    });
-    writePage(this.traceFile, { ...arranged(model, this.listing), replays, recordedPicture: replay.recorded.run.end.picture?.small || null });
   }
 }
 

@@ -13,6 +13,7 @@ const { movedTo } = require('./driven/hold-plan.js');
 const { UsageFault } = require('./recording/options.js');
 const { sorted } = require('./replay/found/differences.js');
 const { judgeReversal } = require('./replay/reversal.js');
+const { sentenceOf } = require('./replay/sentence.js');
 const { verdictInWords, worstOf } = require('./replay/verdict.js');
 const { SuiteLoad, racesByName } = require('./suite-loads.js');
 const { SuiteRun } = require('./suite-run.js');
@@ -27,8 +28,8 @@ const { SuiteRun } = require('./suite-run.js');
 /** @typedef {{replayWith: string, wanted: string[], suiteTime: number}} Options */
 /**
  * What came of a problem in the other order. `isFound` is false if its race did not come again. `words` and `differences` are as in OUT.replay.json
- * (docs/replay.md); `suiteStatus` is that of the command, `folder` has the run's traces and output.
- * @typedef {{name: string, race: number, isFound: boolean, verdict: 'turned'|'not turned', effect?: string, words: string, why?: string, means?: string,
+ * (docs/replay.md), and `sentence` is the short form for the list; `suiteStatus` is that of the command, `folder` has the run's traces and output.
+ * @typedef {{name: string, race: number, isFound: boolean, verdict: 'turned'|'not turned', effect?: string, words: string, sentence?: string, why?: string, means?: string,
  *   heldFor?: number, suiteStatus?: number, differences?: Difference[], unsteady?: Difference[], folder?: string}} Outcome
  */
 
@@ -213,9 +214,13 @@ class SuiteReplays {
     const found = sorted(load.differencesTo(held), this.unsteadyOf(load, problem));
     const differences = [...this.ofSuite(ended), ...found.differences];
     const { note, isListed } = judged;
-    const words = verdictInWords({ verdict: 'turned', differences, beside: found.beside, unsteady: found.unsteady, note, isListed });
-    const worst = this.ofSuite(ended).length ? FAILING : worstOf({ differences })?.name;
-    return { verdict: 'turned', ...worst ? { effect: worst } : {}, words, means: cause.words, heldFor, differences, unsteady: found.unsteady };
+    /** @type {import('./replay/types').Result} */
+    const result = { verdict: 'turned', differences, beside: found.beside, unsteady: found.unsteady, note, isListed };
+    const [ofSuite] = this.ofSuite(ended);
+    const worst = worstOf(result);
+    const sentence = sentenceOf(result, ofSuite || worst?.difference, race.location);
+    const effect = ofSuite ? FAILING : worst?.name;
+    return { verdict: 'turned', ...effect ? { effect } : {}, words: verdictInWords(result), sentence, means: cause.words, heldFor, differences, unsteady: found.unsteady };
   }
 
   /**
@@ -245,8 +250,10 @@ class SuiteReplays {
    * @param {Outcome} outcome
    */
   note(outcome) {
-    const words = outcome.words || verdictInWords({ verdict: 'not turned', why: outcome.why });
-    this.outcomes.push({ ...outcome, words });
+    /** @type {import('./replay/types').Result} */
+    const result = { verdict: 'not turned', why: outcome.why };
+    const words = outcome.words || verdictInWords(result);
+    this.outcomes.push({ ...outcome, words, sentence: outcome.sentence || sentenceOf(result, undefined) });
     const problem = this.listing.problems.find(({ name }) => name === outcome.name);
     printError(`er_suite: ${problem ? this.listing.summaryOf(problem) : outcome.name}: ${words}`);
   }

@@ -11,6 +11,8 @@
 const { keepSecret, SHORTEST_FOUND } = require('../common/secrets.js');
 const { within } = require('../common/time.js');
 
+/** The size of a page's window (viewport) in CSS pixels, without `--viewport`: as of a small laptop, in which wide layouts are shown. */
+const WINDOW = { width: 1100, height: 800 };
 /** In milliseconds. */
 const LONGEST_COOKIES = 1000;
 /** What a browser asks its user for before a page reaches servers of this machine, and of the network around it. */
@@ -185,4 +187,4 @@ class Tab {
   }
 }
 
-module.exports = { Tab };
+module.exports = { Tab, WINDOW };

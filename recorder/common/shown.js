@@ -1,5 +1,5 @@
 'use strict';
-// A text of a page as it is shown to a reader: truncated if it is long, and without what a terminal or a browser takes for a command. Control characters of a
+// A text of a page as it is shown to a reader: cut (truncated, shortened) if it is long, and without what a terminal or a browser takes for a command. Control characters of a
 // terminal are written as escapes (`\u{1b}`).
 
 /** Control characters, line ends, what changes the direction of a text, and halves of characters. */

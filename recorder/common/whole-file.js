@@ -6,10 +6,11 @@ const { randomBytes } = require('node:crypto');
 const fs = require('node:fs');
 const path = require('node:path');
 
-/** Made by loads.js. */
+/** An output file cannot be written: no fault of the program (command.js, driven/complaints.js). Made by `faultOf`. */
 class WriteFault extends Error {}
 
 /**
+ * The fault of a file, with the reason of the system. Called by loads.js.
  * @param {string} file
  * @param {unknown} fault
  */
@@ -22,7 +23,8 @@ const faultOf = (file, fault) => new WriteFault(`${file} cannot be written: ${fa
 const isReplaced = (file) => fs.lstatSync(file, { throwIfNoEntry: false })?.isFile() !== false;
 
 /**
- * The file beside it must be new: a link of that name, which another user may have put there, is not followed.
+ * Writes a new file beside the old one and renames it. The file beside it must be new: a link of that name, which another user may have put there, is not
+ * followed. It is made empty before the `try`: if the name is taken, nothing of others is removed.
  * @param {string} file
  * @param {string} text
  */
@@ -76,4 +78,4 @@ function makeFolder(folder) {
   }
 }
 
-module.exports = { writeWhole, mustTake, makeFolder, WriteFault };
+module.exports = { writeWhole, mustTake, makeFolder, faultOf, WriteFault };

@@ -8,7 +8,7 @@ const { NetworkLog } = require('../browser/responses/network-log.js');
 const { OwnOrigin } = require('../browser/responses/own-origin.js');
 const { PageSteps } = require('../browser/responses/page-steps.js');
 const { whyNoTarget } = require('../browser/input/fields.js');
-const { Tab } = require('../browser/tab.js');
+const { Tab, WINDOW } = require('../browser/tab.js');
 const { User } = require('../browser/user.js');
 const { leadsOn } = require('../options/flow.js');
 const { signIn } = require('../recording/signed-in.js');
@@ -18,7 +18,6 @@ const { BrowserRecorder } = require('./browser-recorder.js');
 /** @typedef {import('../browser/user.js').Outcome} Outcome */
 /** @typedef {import('../recording/options.js').RecordingOptions} RecordingOptions */
 
-const SIZE = { width: 1100, height: 800 };
 const POLL = 50;
 /** In milliseconds: what a step waits for, if the flow does not say; a page without news is quiet; what never is quiet is waited for so long. */
 const LONGEST_SEARCH = 5000;
@@ -85,11 +84,11 @@ class FlowRecorder {
   async recordIn(browser) {
     const { options } = this;
     const { viewport, ignoresCertificateErrors, userDataDir, isHeaded } = options;
-    browser.start({ ...viewport || SIZE, ignoresCertificateErrors, userDataDir, isHeaded });
+    browser.start({ ...viewport || WINDOW, ignoresCertificateErrors, userDataDir, isHeaded });
     await browser.hasStarted();
     this.recorder = new BrowserRecorder(browser, this.folder, { ...options, time: LONGEST_LOAD, isDriven: true }, this.complain);
     await this.recorder.start();
-    this.tab = await Tab.open(browser, viewport || SIZE, !!userDataDir);
+    this.tab = await Tab.open(browser, viewport || WINDOW, !!userDataDir);
     await this.listen(this.tab);
     await this.answerServers(this.tab);
     await signIn(this.tab, this.steps[0].target, options);

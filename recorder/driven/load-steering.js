@@ -15,7 +15,10 @@ const { startOf } = require('./opened-window.js');
 
 /** @type {Required<Pick<Plan, 'cause'|'second'|'longest'>>} what a plan with a load has */
 const EMPTY = { cause: { means: 'act', action: 0, words: '' }, second: { key: '', mode: '', kind: '', name: '', nth: 0, actionKey: '', nthAction: 0, isLookUp: false }, longest: 0 };
-/** Room for the places of the page's own scripts, which are known when it is instrumented: their columns depend on the length of what is put before them. */
+/**
+ * Room for the places of the page's own scripts, which are known when it is instrumented: their columns depend on the length of what is put before them. Long
+ * stacks get more.
+ */
 const ROOM = 4000;
 
 /** @param {unknown} value */
@@ -83,12 +86,14 @@ class LoadSteering extends RunSteering {
     const holds = this.forPage();
     if (!holds.length) return [];
     const start = startOf(html);
-    const write = (/** @type {unknown[]} */ expected) => {
-      const tell = ofRecording(this.ownNames, `.steering.expect(${codeOf(expected)}, true)`).padEnd(ROOM);
-      return { start, end: start, insert: `<script data-er-hold nonce="${HOLD_NAME}">${tell};__er.removeHold(document.currentScript)</script>` };
-    };
-    this.load.sources.tryInsertions(address, [...before, write(holds)]);
-    return [write(holds.map((hold) => this.withSpots(hold)))];
+    const codeFor = (/** @type {unknown[]} */ expected) => ofRecording(this.ownNames, `.steering.expect(${codeOf(expected)}, true)`);
+    const write = (/** @type {string} */ code) => ({ start, end: start, insert: `<script data-er-hold nonce="${HOLD_NAME}">${code};__er.removeHold(document.currentScript)</script>` });
+    for (let room = ROOM; ;) {
+      this.load.sources.tryInsertions(address, [...before, write(''.padEnd(room))]);
+      const code = codeFor(holds.map((hold) => this.withSpots(hold)));
+      if (code.length <= room) return [write(code.padEnd(room))];
+      room = 2 * code.length; // with more room the columns have a few digits more
+    }
   }
 
   /** @param {ReturnType<import('../replay/hold.js').Hold['forPage']>} hold */

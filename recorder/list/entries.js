@@ -26,6 +26,8 @@ const { APART, HARMLESS, IDLE, SAME, UNCHANGED } = require('./patterns/table.js'
  */
 
 const MOST_NAMED = 3;
+/** Sections of which no problem says that it was not replayed. */
+const NOT_WANTED = new Set([APART, HARMLESS, IDLE]);
 /** So many races of a problem are looked through for what else has the same two places. */
 const MOST_RACES = 500;
 
@@ -55,7 +57,11 @@ class Entries {
     this.folder = folder;
     /** @type {Sides[]} by run */
     this.sides = [];
-    this.notReplayedWords = 'no (--most N replays more races)';
+    /**
+     * What a problem has in place of a verdict. Set by replay-command.js.
+     * @type {(line: Listed) => string}
+     */
+    this.notReplayedWords = () => '';
   }
 
   /**
@@ -188,22 +194,31 @@ class Entries {
    */
   details(line, others) {
     const { look } = line;
-    const here = others.some((one) => one.look.look === look.look && !one.look.isUnchanged) ? look.here.replace(UNCHANGED, '') : look.here;
+    const isChanging = others.some((one) => one.look.look === look.look && !one.look.isUnchanged);
+    const here = isChanging ? look.here.replace(UNCHANGED, '') : look.here;
     const cause = this.causeOf(line);
     const replay = this.listing.verdictOf(line);
     const seen = this.listing.seenInWords(line);
     /** @type {Entry['details']} */
-    const all = [['cause', cause ? summaryOf(cause) : ''], ['recorded', here], ['replayed', replay ? replay.sentence || replay.words : this.notReplayed(line)], ['runs', seen], ['fix', this.fixOf(line, others)]];
+    const all = [['cause', cause ? summaryOf(cause) : ''], ['recorded', this.recordedInWords(line, here)], ['replayed', replay ? replay.sentence || replay.words : this.notReplayed(line)], ['runs', seen], ['fix', this.fixOf(line, others)]];
     return all.filter(([, text]) => text);
   }
 
   /**
-   * What a problem has in place of a verdict, if others have one.
+   * Which order the recording had, in words. If another race of the problem had the other one, nobody has to guess what that does.
+   * @param {Listed} line @param {string} here the order of the race that is shown
+   */
+  recordedInWords({ orders }, here) {
+    const isBoth = this.listing.runs.length === 1 && orders.size > 1; // of several runs another line has it
+    return here && isBoth ? `both orders came; here ${here.replace(/[,;] (?:and )?in the other order .*$/, '')}` : here;
+  }
+
+  /**
+   * What a problem has in place of a verdict, if a reader might want one.
    * @param {Listed} line
    */
-  notReplayed({ look }) {
-    const isSome = this.listing.verdicts.some((verdicts) => verdicts?.size);
-    return isSome && look.part !== APART ? this.notReplayedWords : '';
+  notReplayed(line) {
+    return NOT_WANTED.has(this.listing.partOf(line)) ? '' : this.notReplayedWords(line);
   }
 
   /**

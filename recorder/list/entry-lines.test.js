@@ -5,7 +5,7 @@ const assert = require('node:assert');
 const { test } = require('node:test');
 const { linesOfEntry, styleOf, wrapped } = require('./entry-lines.js');
 
-const SIDE = { verb: 'writes', what: 'cart', place: 'shop.js:16:3', actor: 'timeout hint, scheduled at shop.js:15:1', also: '', event: '', act: '', reply: '', at: null, own: null };
+const SIDE = { verb: 'writes', what: 'cart', place: 'shop.js:16:3', actor: 'timeout hint, scheduled at shop.js:15:1', also: '', event: '', act: '', at: null, own: null };
 /** @type {import('./entries.js').Entry} */
 const ENTRY = {
   place: 'shop.js:16', sentence: 'What is typed is overwritten', look: 'overwritten field', part: 'loses what a user does', name: '0123456789ab', more: 'and 1 more race',

@@ -6,8 +6,10 @@
 /**
  * The kind of what the race is at, whether the side that finds nothing comes from an act of the user, and whether both sides write. Of an event that looks for
  * handlers: the tag of its target ('' if it is unknown), whether a library registers the handler for the page's own call, and, for a handler of the document or
- * the window that the page itself registers, in what. `isOfOneAct`: one act of a user causes both sides. `isInLibraries`: both sides are in libraries, and no call of the page's own code is known that leads to one.
- * @typedef {{kind: string, isOfUser: boolean, modes?: string, tag?: string, isByLibrary?: boolean, ofPage?: ''|'script'|'callback', isOfOneAct?: boolean, isInLibraries?: boolean}} Use
+ * the window that the page itself registers, in what. `isOfOneAct`: one act of a user causes both sides.
+ * `isInLibraries`: both sides are in libraries, and no call of the page's own code is known that leads to one. `replace`: how many of two replies are known to
+ * replace what was there.
+ * @typedef {{kind: string, isOfUser: boolean, modes?: string, tag?: string, isByLibrary?: boolean, ofPage?: ''|'script'|'callback', isOfOneAct?: boolean, isInLibraries?: boolean, replace?: ''|'both'|'one'}} Use
  */
 
 const OF_ELEMENT = 'look it up after it was added: `defer` in place of `async`, or DOMContentLoaded';
@@ -29,6 +31,9 @@ const OF_PAGE = {
 };
 const OF_ONE_ACT = 'usually none: the browser decides the order';
 const OF_LIBRARIES = 'both sides are library code: use the library again only when it is done, or report it there';
+/** Of overwriting replies. */
+const DISCARD = 'discard a reply to an older request (number the requests, or abort the older one)';
+const OF_REPLIES = { both: DISCARD, one: `one reply adds to what the other replaces: ${DISCARD}`, '': '' };
 /** What follows if a replay found nothing. */
 const IF_UNSEEN = 'usually none: nothing visible differs. If something else depends on the order';
 const IF = 'if the order matters, ';
@@ -43,7 +48,7 @@ const FIXES = {
   act: 'keep what the act wrote (check for it first), or disable the control until this has run',
   undefined: `${OF_VARIABLE}; for an element: ${OF_ELEMENT}; in code that a user starts: ${OF_USER}`,
   missed: 'register it in a script without `async`, or check first whether the event has already come',
-  replies: 'if each reply replaces what is shown: discard a reply to an older request (number the requests, or abort the older one); if the replies add to one another: none',
+  replies: `if the newer reply is to replace what is shown: ${DISCARD}; if both only add: none`,
   other: `${IF}let one side wait for the other, or check that it is still wanted`,
   flag: 'usually none: the side that comes last sees the flag of the other',
   ended: 'usually none: after that code the callback does not run',
@@ -58,12 +63,13 @@ const FIXES = {
  * The change for a problem. Called by sides.js.
  * @param {LookKey} look @param {Use} use
  */
-function fixOf(look, { kind, isOfUser, modes = 'ww', tag = '', isByLibrary = false, ofPage = '', isOfOneAct = false, isInLibraries = false }) {
+function fixOf(look, { kind, isOfUser, modes = 'ww', tag = '', isByLibrary = false, ofPage = '', isOfOneAct = false, isInLibraries = false, replace = '' }) {
   if (look === 'late' && ofPage) return OF_PAGE[ofPage];
   if (look === 'late') return `${isByLibrary ? IN_TIME_BY_LIBRARY : IN_TIME}, ${CAN_BE_DISABLED.has(tag) ? OR_DISABLE : OR_HIDE}`;
   if (look === 'field' && modes !== 'ww') return OF_READ;
   if (look === 'acts' && isOfOneAct) return OF_ONE_ACT;
   if (look === 'other' && isInLibraries) return OF_LIBRARIES;
+  if (look === 'replies' && replace) return OF_REPLIES[replace];
   if (look !== 'undefined') return FIXES[look];
   return isOfUser ? OF_USER : kind === 'element' ? OF_ELEMENT : OF_VARIABLE;
 }

@@ -81,7 +81,10 @@ test('a late handler that a library registers: the call, and its libraries', () 
 });
 
 test('replies: nothing to change if they add to one another', () => {
-  assert.match(FIXES.replies, /^if each reply replaces what is shown: discard a reply to an older request .*; if the replies add to one another: none$/);
+  assert.match(FIXES.replies, /^if the newer reply is to replace what is shown: discard a reply to an older request .*; if both only add: none$/);
+  const [both, one] = /** @type {const} */ (['both', 'one']).map((replace) => fixOf('replies', { kind: 'variable', isOfUser: false, replace }));
+  assert.match(both, /^discard a reply to an older request/);
+  assert.match(one, /^one reply adds to what the other replaces: discard/);
 });
 
 test('both sides in a library: there is nothing to change in it', () => {

@@ -2,6 +2,7 @@
 // The list as one object for other tools (docs/ci.md). The output of `--json`: its members and `format`.
 
 const { placesOf, plainPlace } = require('./places.js');
+const { kindOf } = require('./verdicts.js');
 
 /** The sum of the two orders. */
 const BOTH_ORDERS = 3;
@@ -68,7 +69,9 @@ function plainProblem(listing, problem, index, { failing, lines }, folder) {
  */
 function replayOf(listing, problem) {
   const found = listing.verdictOf(problem);
-  return found ? { replay: { race: found.race, verdict: found.verdict, differs: !!found.effect, effect: found.effect, sentence: found.sentence, words: found.words } } : {};
+  if (!found) return {};
+  const { race, verdict, effect, ownEffect = found.kind ? undefined : effect, from, sentence, words } = found;
+  return { replay: { race, verdict, differs: !!effect, differsByItself: kindOf(found) === 'differs', effect, ownEffect, from, sentence, words } };
 }
 
 /**

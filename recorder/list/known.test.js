@@ -165,7 +165,7 @@ test('two acts of a user fail no build unless it is asked for', async () => {
   const plain = new Listing([problems], new Known('', 'known'));
   const asked = new Listing([problems], new Known('', 'known'), { countsActs: true });
   assert.deepStrictEqual([plain, asked].map((one) => [one.fresh().length, one.failing().length]), [[1, 0], [1, 1]]);
-  assert.strictEqual(linesOf(plain)[0], '-- another input, not another order');
+  assert.strictEqual(linesOf(plain)[0], '-- only another input of the user changes the order');
   assert.deepStrictEqual(plainListing(plain, { page: '', status: 0, files: [], folder: null }).problems.map(({ fails }) => fails), [false]);
 });
 
@@ -198,12 +198,12 @@ test('what came of a race in the other order stands in the object and in SARIF',
   const [problem] = listing.problems;
   const words = 'turned: differs: error in the other order alone: TypeError';
   const sentence = 'in the other order an uncaught error: TypeError';
-  listing.setVerdicts(0, [{ race: problem.races[0] + 1, verdict: 'turned', effect: 'an uncaught error', sentence, words }]);
+  listing.setVerdicts(0, [{ race: problem.races[0] + 1, verdict: 'turned', kind: 'differs', effect: 'an uncaught error', ownEffect: 'an uncaught error', sentence, words }]);
   const plain = plainListing(listing, { page: 'page', status: 1, files: [], folder: null });
   const [told, ...others] = plain.problems.filter(({ replay }) => replay);
-  assert.deepStrictEqual(told.replay, { race: problem.races[0] + 1, verdict: 'turned', differs: true, effect: 'an uncaught error', sentence, words });
+  assert.deepStrictEqual(told.replay, { race: problem.races[0] + 1, verdict: 'turned', differs: true, differsByItself: true, effect: 'an uncaught error', ownEffect: 'an uncaught error', from: undefined, sentence, words });
   assert.deepStrictEqual([told.name, others], [problem.name, []]);
   const [result] = sarifOf(listing, { page: PAGE, folder: null }).runs[0].results.filter(({ properties }) => properties?.replay);
-  assert.match(result.message.text, /Run again in the other order: turned: differs: error/);
-  assert.deepStrictEqual(result.properties?.replay, { verdict: 'turned', differs: true, effect: 'an uncaught error' });
+  assert.match(result.message.text, / Replayed: in the other order an uncaught error: TypeError\.$/);
+  assert.deepStrictEqual(result.properties?.replay, { verdict: 'turned', differs: true, differsByItself: true, effect: 'an uncaught error' });
 });

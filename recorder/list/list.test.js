@@ -161,8 +161,8 @@ test('a late handler of a mouse that moves is in a section of its own, at the en
   const facts = { elements: { 1: { tag: 'button', id: 'go' } }, handlers: { 1: { type: 'mouseover', target: 1, place: [1, 3, 1] } }, dispatches: { 1: { type: 'mouseover', act: 1000 } }, places: { 6: [1, 3, 1], 9: [1, 3, 1], 10: [1, 4, 1] } };
   const lines = async (/** @type {string} */ access) => linesOf(new Listing([await problemsOf(late(access), facts)], null));
   const idle = await lines('r var 0 other');
-  assert.match(idle[0], /^2 problems \(other: 1; late handlers that changed nothing recorded: 1\)$/);
-  assert.ok(idle.indexOf('-- late handlers that changed nothing recorded') > idle.indexOf('-- other'));
+  assert.match(idle[0], /^2 problems \(other: 1; late handlers that changed nothing: 1\)$/);
+  assert.ok(idle.indexOf('-- late handlers that changed nothing') > idle.indexOf('-- other'));
   assert.ok(idle.includes('    recorded: the handler was there, and changed nothing that is recorded'));
   assert.match((await lines('w var 0 other'))[0], /^2 problems \(other: 1; often harmless: 1\)$/);
 });

@@ -3,10 +3,10 @@
 // and whether it is known.
 
 const { Entries } = require('./entries.js');
+const { grouped } = require('./grouping.js');
 const { APART } = require('./patterns/table.js');
 const { hasLine } = require('./problems.js');
 const { partOf, rankOf, sortByRank } = require('./rank.js');
-const { shownByChange } = require('./registering-calls.js');
 
 /**
  * @typedef {import('./problems.js').Problem} Problem
@@ -22,10 +22,7 @@ const { shownByChange } = require('./registering-calls.js');
  * A problem of all runs. `run` is the index of the first one, of which the other members are; `seen` has the races by name.
  * @typedef {Problem & {run: number, runs: number[], seen: Map<string, Seen>, orders: Set<number>, hasLine: boolean, isKnown: boolean}} Listed
  */
-/**
- * A line of the list, with the other problems that it stands for.
- * @typedef {{line: Listed, others: Listed[]}} Line
- */
+/** @typedef {{line: Listed, others: Listed[]}} Line a line of the list, with the other problems that it stands for */
 
 /** Made for each list: by page-races.js, view.js and replay-race.js; LoadsListing extends it. */
 class Listing {
@@ -161,45 +158,25 @@ class Listing {
   }
 
   /**
-   * Whether a problem counts if it is not known: that a user may do two things in another order is no fault of the page. Called by outputs.js.
+   * Whether a problem that is not known makes a build fail: `act against act` does only with `--acts` (`countsActs`), since it is no fault of the page that a
+   * user may do two things in another order. Called by outputs.js.
    * @param {Problem} problem
    */
   counts({ look }) {
     return this.countsActs || look.part !== APART;
   }
 
-  /** What a build fails for. */
+  /** What a build fails for, and a command with `--known`: the new problems. Called by many, as page-races.js for the exit status. */
   failing() {
     return this.fresh().filter((one) => this.counts(one));
   }
 
   /**
-   * The lines of the list: what is new at one location, and in one section of the list, is one line, and late handlers that one call registers. In a build each
-   * problem is a line, with its name.
+   * The lines of the list, each with the other problems that it stands for, as outputs.js and others print and count them.
    * @returns {Line[]}
    */
   told() {
-    /** @type {Map<string, Line>} */
-    const lines = new Map();
-    for (const line of this.fresh()) {
-      const key = this.known ? line.name : this.keyOf(line);
-      const known = lines.get(key);
-      if (known) known.others.push(line);
-      else lines.set(key, { line, others: [] });
-    }
-    const inWords = (/** @type {Listed} */ each) => JSON.stringify([each.look.look, this.partOf(each), this.rankOf(each)]);
-    return [...lines.values()].map((one) => shownByChange(one, inWords, (each) => !!this.verdictOf(each) && this.partOf(each) === this.partOf(one.line)));
-  }
-
-  /**
-   * Equal for problems that are one line. All properties of the style of an element are one location.
-   * @param {Listed} line
-   */
-  keyOf(line) {
-    const { run, first, look } = line;
-    const call = look.look === 'late' ? this.entries.callOf(line) : '';
-    const location = this.runs[run].report.races[first].location.replace(/ style(?:\.\S+)?$/, ' style');
-    return call ? `${run} call ${call}` : `${this.partOf(line)} ${run} ${location}`;
+    return grouped(this);
   }
 
   /** The lines of problems that are known. */
@@ -259,16 +236,6 @@ class Listing {
    */
   entryOf(line, others = []) {
     return this.entries.of(line, others);
-  }
-
-  /**
-   * The place at which the list has the problem of a race. Called by replay-command.js.
-   * @param {number} run @param {number} race its index
-   */
-  placeOfRace(run, race) {
-    const name = this.runs[run].ofRaces[race]?.problem;
-    const problem = this.problems.find((one) => one.name === name);
-    return problem ? this.entries.placeOf(problem) : '';
   }
 
   /**

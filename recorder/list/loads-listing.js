@@ -15,7 +15,7 @@ class LoadEntries extends Entries {
   constructor(listing) {
     super(listing, null);
     this.loads = listing.loads;
-    this.notReplayedWords = 'no (--replay PROBLEM replays it)';
+    this.notReplayedWords = (/** @type {Listed} */ { name }) => (listing.verdicts.some((some) => some?.size) ? `no (--replay ${name} does it)` : '');
   }
 
   /** @param {Listed} line */

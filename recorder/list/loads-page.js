@@ -2,6 +2,7 @@
 // index.html of a test suite: its page loads, each with its view, and the problems of all of them.
 
 const { escapeText } = require('../common/shown.js');
+const { replaysInWords } = require('./verdicts.js');
 
 /**
  * @typedef {import('./loads-listing.js').LoadsListing} LoadsListing
@@ -22,8 +23,9 @@ const count = (number, one) => `${number} ${one}${number === 1 ? '' : 's'}`;
 function problemItem(listing, links, one) {
   const seen = one.runs.slice(0, MOST_LOADS).map((run) => link(links[run - 1], String(run))).join(', ');
   const more = one.runs.length > MOST_LOADS ? `, and ${one.runs.length - MOST_LOADS} more` : '';
+  const [, replayed = ''] = listing.entries.details(one, []).find(([label]) => label === 'replayed') || [];
   return `<li${one.isKnown ? ' class="known"' : ''}>${escapeText(listing.summaryOf(one))}. ${escapeText(one.words)}${one.look.seen ? ` (${escapeText(one.look.seen)})` : ''}`
-    + ` <code>${one.name}</code><br>Usual change: ${escapeText(listing.fixOf(one))}<br>in ${one.runs.length === 1 ? 'load' : 'loads'} ${seen}${more}${one.orders.size > 1 ? ', in both orders' : ''}</li>`;
+    + ` <code>${one.name}</code>${replayed && `<br>Replayed: ${escapeText(replayed)}`}<br>Usual change: ${escapeText(listing.fixOf(one))}<br>in ${one.runs.length === 1 ? 'load' : 'loads'} ${seen}${more}${one.orders.size > 1 ? ', in both orders' : ''}</li>`;
 }
 
 /** @param {LoadsListing} listing @param {string[]} links */
@@ -56,6 +58,7 @@ function loadRow(load, number, file, { fresh, known }) {
  */
 function loadsPage(listing, loads, links) {
   const counts = listing.countsByLoad();
+  const replays = replaysInWords(listing.verdicts);
   const rows = loads.map((load, k) => loadRow(load, k + 1, links[k], counts[k])).join('\n');
   return `<!doctype html>
 <html lang="en">
@@ -64,7 +67,7 @@ function loadsPage(listing, loads, links) {
 <style>${STYLE}</style>
 <h1>Races of ${count(loads.length, 'page load')}</h1>
 <h2>Problems</h2>
-${listing.lines.length ? problemList(listing, links) : '<p>No race.</p>'}
+${replays && `<p>${escapeText(replays)}.</p>\n`}${listing.lines.length ? problemList(listing, links) : '<p>No race.</p>'}
 <h2>Loads</h2>
 <table><tr><th></th><th>page and test</th><th>actions</th><th>found</th><th>its end</th></tr>
 ${rows}

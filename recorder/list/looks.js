@@ -24,6 +24,12 @@ const { isTypedOver } = require('./patterns/typed.js');
 const pairOf = ({ actions }, modes) => `${actions.join(' ')} ${modes}`;
 
 /**
+ * The pattern of a race whose two sides come from acts of a user.
+ * @param {boolean} isOne whether they come from one act
+ */
+const actsOf = (isOne) => lookOf('acts', `${isOne ? 'both come from one act of a user' : 'two acts of a user'}: only another input of the user changes the order`, isOne ? 'one' : '');
+
+/**
  * The form fields of elements: what a user types or chooses.
  * @param {string} location
  */
@@ -92,7 +98,7 @@ class Looks {
    */
   look(race) {
     const acts = race.actions.map((action) => this.userActs.actOf(action));
-    if (acts[0] && acts[1]) return lookOf('acts', `${acts[0] === acts[1] ? 'both come from one act of a user' : 'two acts of a user'}: it takes another input to turn them, not another order`);
+    if (acts[0] && acts[1]) return actsOf(acts[0] === acts[1]);
     if (race.location.startsWith('slot ')) return this.handler(race, acts) || lookOf('other');
     const ended = this.cleared(race);
     const isWritten = race.modes === 'ww';
@@ -112,8 +118,8 @@ class Looks {
     const [type, handler = ''] = slot.split('/');
     const isUnchanged = k === 1 && this.idle.isUnchanged(number, handler);
     const here = k === 0 ? 'here it came before the handler was set' : `here the handler was there${isUnchanged ? UNCHANGED : ''}`;
-    const isIdle = isUnchanged && (look === 'missed' || this.idle.isOfLittle(number, target, type));
-    const facts = { isUnchanged, isIdle, comesAgain: look === 'late' && isAgain(type) };
+    const isOfLittle = look === 'missed' || this.idle.isOfLittle(number, target, type);
+    const facts = { isUnchanged, isIdle: isUnchanged && isOfLittle, isOfLittle, comesAgain: look === 'late' && isAgain(type) };
     return lookOf(look, `a handler that comes late: ${this.words.action(number)} may find none; ${here}`, detailOf(look, 'slot', type), facts);
   }
 

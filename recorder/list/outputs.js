@@ -9,6 +9,7 @@ const { librariesInWords } = require('../trace/accesses.js');
 const { plainListing } = require('./json.js');
 const { APART } = require('./patterns/table.js');
 const { sarifOf } = require('./sarif.js');
+const { replaysInWords } = require('./verdicts.js');
 
 /**
  * @typedef {import('./listing.js').Listing} Listing
@@ -16,7 +17,7 @@ const { sarifOf } = require('./sarif.js');
  * @typedef {{isJson?: boolean, color?: string, sarif?: string|null, known?: string|null, writesKnown?: boolean}} OutputOptions
  */
 
-/** The last line on a terminal. */
+/** The line after the list, only on a terminal: which documents explain it. */
 const HELP = 'What the lines mean: docs/using.md, "A problem of the list"; usual changes for each pattern: docs/ci.md, "Patterns"';
 /** @type {Style} */
 const PLAIN = { hasColor: false, width: 100, isTerminal: false };
@@ -75,17 +76,14 @@ function countsOf(listing) {
 }
 
 /**
- * The last line of all: how many problems there are by section, how many are known, what replays found, and whether the recordings lack something.
+ * The last line of all, as `1 problem (may throw: 1)`, which page-races.js and loads.js print with the name of the view: how many problems there are by section, how many are known, what replays found, and whether the recordings lack something.
  * @param {Listing} listing
  */
 function totalsOf(listing) {
   const known = listing.knownLines().length;
-  const verdicts = listing.verdicts.flatMap((some) => [...some?.values() || []]);
-  const differing = verdicts.filter(({ effect }) => effect);
-  const onlyHandlers = differing.filter(({ differences = [] }) => differences.length && differences.every(({ kind }) => kind === 'event')).length;
-  const only = onlyHandlers ? ` (${onlyHandlers === differing.length ? 'only' : `${onlyHandlers} only`} in which handlers run)` : '';
+  const replays = replaysInWords(listing.verdicts);
   return [countsOf(listing), ...(known ? [`${known} known`] : []),
-    ...(verdicts.length ? [`${differing.length} of ${verdicts.length} differ in the other order${only}`] : []), ...incompleteInWords(listing)].join(', ');
+    ...(replays ? [replays] : []), ...incompleteInWords(listing)].join(', ');
 }
 
 /** @param {Listing} listing */

@@ -113,7 +113,8 @@ class Problems {
   }
 
   /**
-   * The race that is shown has the problem's pattern, which its sentence says: that of a group, if it has it, one of the same two actions, or another one.
+   * The race that is shown has the problem's pattern, which its sentence says: that of a group, if it has it, one of the same two actions, or another one. Of
+   * overwriting replies, it is a race of one callback, if there is one.
    * @param {Folded} problem @returns {Problem}
    */
   complete(problem) {
@@ -124,7 +125,9 @@ class Problems {
       return lead !== undefined && this.isOnePair(lead, race);
     };
     const isLike = (/** @type {number} */ race) => isAlike(this.ofRaces[race].look, problem.look);
-    const first = mostUsual(leads.filter(isLike), problem.races, (race) => this.placesOf(race)) ?? problem.races.find((race) => isLike(race) && isBeside(race)) ?? problem.races.find(isLike) ?? leads[0] ?? problem.races[0];
+    const isOfOne = (/** @type {number} */ race) => problem.look.look === 'replies' && isLike(race) && this.isOneCallback(this.report.races[race]);
+    const likely = leads.find(isOfOne) ?? problem.races.slice(0, MOST_RACES).find(isOfOne);
+    const first = likely ?? mostUsual(leads.filter(isLike), problem.races, (race) => this.placesOf(race)) ?? problem.races.find((race) => isLike(race) && isBeside(race)) ?? problem.races.find(isLike) ?? leads[0] ?? problem.races[0];
     const group = this.report.races[first].group - 1;
     if (problem.groups.includes(group)) this.leads[group] = first;
     const look = isLike(first) ? this.ofRaces[first].look : problem.look;
@@ -185,8 +188,26 @@ class Problems {
    * elements can have one id. Called by sides.js.
    * @param {Race} race
    */
-  isReplaced({ location, modes, lines, actions }) {
-    return modes === 'ww' && location.startsWith('var ') && !IN_PARTS.test(location) && lines.every((line, k) => !this.accesses.isUpdate(line, actions[k], location));
+  isReplaced(race) {
+    const { location, lines, actions } = race;
+    return this.isWhole(race) && lines.every((line, k) => !this.accesses.isUpdate(line, actions[k], location));
+  }
+
+  /**
+   * Whether both sides of a race write a thing that has no parts. Called by race-facts.js.
+   * @param {Race} race
+   */
+  isWhole({ location, modes }) {
+    return modes === 'ww' && location.startsWith('var ') && !IN_PARTS.test(location);
+  }
+
+  /**
+   * Whether the two sides of a race are runs of one callback, by the places to look at. Called by race-facts.js.
+   * @param {Race} race
+   */
+  isOneCallback({ lines, actions }) {
+    const [one, other] = lines.map((line, k) => String(this.words.placeOfAccess(line, actions[k])));
+    return one === other;
   }
 
   /**

@@ -62,7 +62,7 @@ const kindOf = ({ look, detail }) => (detail ? `${look} ${detail}` : look);
 const chanceOf = (look, judged) => (look.isIdle ? ASSUMED_OF_IDLE : shareOf(judged[kindOf(look)] || [0, 0], ASSUMED[look.comesAgain ? HARMLESS : look.part] ?? 0));
 
 /** @type {{[detail: string]: string}} */
-const OF_DETAIL = { '': '', choosing: ', of an event by which a user chooses,', element: ', of an element that is looked up,', read: ', of a field that is read later,' };
+const OF_DETAIL = { '': '', choosing: ', of an event by which a user chooses,', element: ', of an element that is looked up,', read: ', of a field that is read later,', one: ', of one act,' };
 
 /** @param {Look} look @param {Shares} shares */
 function reasonOf(look, shares) {
@@ -73,11 +73,11 @@ function reasonOf(look, shares) {
 }
 
 /**
- * Whether more differs than that an event found no handler.
+ * Whether more differs than that an event found no handler. What other races do does not count.
  * @param {Verdict} verdict
  */
 function hasVisible({ differences, words }) {
-  return differences ? differences.some(({ kind }) => kind !== 'event') : !words.includes(NOTHING_ELSE);
+  return differences ? differences.some(({ kind, from }) => kind !== 'event' && !from) : !words.includes(NOTHING_ELSE);
 }
 
 /**
@@ -85,7 +85,8 @@ function hasVisible({ differences, words }) {
  * @returns {{level: number, reason: string, chance?: number}}
  */
 function levelOf(verdict) {
-  const { effect } = verdict;
+  const effect = verdict.kind ? verdict.ownEffect : verdict.effect;
+  if (!effect && verdict.kind === 'others') return { level: LEVELS.same, reason: 'run again in the other order: only another race makes a difference' };
   if (!effect) return { level: LEVELS.same, reason: 'run again in the other order: no visible difference' };
   if (effect === ERROR) return { level: LEVELS.error, reason: 'run again: an uncaught error in one order only' };
   const reason = `run again in the other order: ${effect}`;
@@ -113,7 +114,8 @@ function rankOf(look, verdict, judged = JUDGED) {
  */
 function partOf(look, verdict) {
   const level = verdict?.verdict === 'turned' ? levelOf(verdict).level : LEVELS.event;
-  const part = level < LEVELS.event ? look.part : look.isIdle ? IDLE : look.comesAgain ? HARMLESS : look.part;
+  const isIdle = look.isIdle || (look.isOfLittle && !!verdict?.isReader); // it ran in the recording or in a replay, and only read
+  const part = level < LEVELS.event ? look.part : isIdle ? IDLE : look.comesAgain ? HARMLESS : look.part;
   const isUsuallyNone = part === IDLE || part === HARMLESS || part === APART;
   return level === LEVELS.same && !isUsuallyNone ? SAME : part;
 }

@@ -61,6 +61,15 @@ test('the section of late handlers that changed nothing: not if more differs whe
   assert.strictEqual(isWorse(idle, lookOf('late')), false);
 });
 
+test('the harm of another race does not count: it differs only by that one', () => {
+  const others = { ...differs('another content', ['event', 'text']), kind: /** @type {const} */ ('others'), ownEffect: 'a lost act', isReader: true };
+  others.differences = [{ kind: 'event' }, { kind: 'text', from: [2] }];
+  const late = (/** @type {boolean} */ isOfLittle) => lookOf('late', '', '', { isOfLittle });
+  assert.deepStrictEqual([partOf(late(true), others), partOf(late(false), others)].map((part) => part.split(' ')[0]), ['late', 'loses']);
+  assert.strictEqual(rankOf(late(true), others).reason, 'run again in the other order: a lost act, and nothing else differs');
+  assert.strictEqual(rankOf(lookOf('other'), { ...others, ownEffect: undefined }).reason, 'run again in the other order: only another race makes a difference');
+});
+
 test('a line that covers a handler that changed nothing is shown by it only if a user chooses something by its event', () => {
   const unchanged = (/** @type {''|'choosing'} */ detail) => lookOf('late', 'here the handler was there, and changed nothing', detail, { isUnchanged: true });
   assert.deepStrictEqual([isWorse(unchanged('choosing'), lookOf('other')), isWorse(unchanged(''), lookOf('other')), isWorse(lookOf('late'), lookOf('other'))], [true, false, true]);

@@ -7,6 +7,7 @@ const path = require('node:path');
 const { FIXES } = require('./fixes.js');
 const { LOOKS, RANKS } = require('./patterns/table.js');
 const { placesOf, plainPlace, uriOf } = require('./places.js');
+const { kindOf } = require('./verdicts.js');
 
 /**
  * @typedef {import('./listing.js').Listing} Listing
@@ -26,7 +27,7 @@ const SAYS = {
   act: 'What a user\'s act wrote may be written over.',
   undefined: 'A read or a look-up may find nothing.',
   missed: 'An event of the page may find no handler.',
-  replies: 'An answer may overwrite a newer one.',
+  replies: 'An older reply may come after a newer one.',
   other: 'Two accesses to one location that nothing orders.',
   flag: 'Each side sets a flag and asks that of the other.',
   ended: 'A callback may run before code clears it.',
@@ -96,7 +97,7 @@ function uriOfPage({ names }, page, folder) {
 function result(listing, problem, facts) {
   const { name, look, words, isKnown, run, first } = problem;
   const replay = listing.verdictOf(problem);
-  const inOtherOrder = replay && `Run again in the other order: ${replay.words}.`;
+  const inOtherOrder = replay && `Replayed: ${replay.sentence || replay.words}.`;
   return {
     ruleId: idOf(look.look),
     ruleIndex: RANKS.indexOf(look.look),
@@ -104,7 +105,7 @@ function result(listing, problem, facts) {
     message: { text: [`${listing.summaryOf(problem)}.`, words, look.seen && `${look.seen}.`, listing.seenInWords(problem), inOtherOrder].filter(Boolean).join(' ') },
     ...locationsOf(listing.runs[run], first, facts),
     partialFingerprints: { 'raceName/v1': name },
-    ...(replay ? { properties: { replay: { verdict: replay.verdict, differs: !!replay.effect, effect: replay.effect } } } : {}),
+    ...(replay ? { properties: { replay: { verdict: replay.verdict, differs: !!replay.effect, differsByItself: kindOf(replay) === 'differs', effect: replay.effect } } } : {}),
     ...(isKnown ? { suppressions: [{ kind: 'external', justification: 'it stands in the file of known races' }] } : {}),
   };
 }

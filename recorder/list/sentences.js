@@ -8,9 +8,9 @@
 /**
  * What a sentence is made of: the two sides of a race in the order of the list, what acts in each as the subject of a sentence, the thing that they touch
  * and the field that a user fills in, in words. `isReplaced`: each side writes all of the thing, and keeps nothing of what was there. `otherwise`: what the
- * browser does for an event without a handler. `ofOneAct`: both sides come from one act of a user, as handlers or in another way. `ended`: a callback, and
- * where code clears it.
- * @typedef {{sides: [Side, Side], subjects: [string, string], thing: string, field: string, modes: string, kind: string, isReplaced: boolean, otherwise?: string, ofOneAct?: ''|'handlers'|'others', ended?: {callback: string, place: string}|null}} Facts
+ * browser does for an event without a handler. `replies`: of two replies, their requests. `ofOneAct`: both sides come from one act of a user, as handlers or in another way.
+ * `ended`: a callback, and where code clears it.
+ * @typedef {{sides: [Side, Side], subjects: [string, string], thing: string, field: string, modes: string, kind: string, isReplaced: boolean, otherwise?: string, replies?: import('./race-facts.js').Replies, ofOneAct?: ''|'handlers'|'others', ended?: {callback: string, place: string}|null}} Facts
  */
 
 /** @param {string} text */
@@ -33,6 +33,16 @@ function neutral({ sides, subjects: [one, other], thing, modes, kind, isReplaced
   return `${other} may ${change} ${thing} before or after ${one} ${modes === 'ww' ? 'does' : READS[sides[0].verb] || 'reads it'}`;
 }
 
+/**
+ * Both replies are named if two callbacks take them; of one callback, the entry has one of many pairs.
+ * @param {Facts} facts
+ */
+function ofReplies({ replies, thing }) {
+  const { older = '', newer = '', isOneCallback = true } = replies || {};
+  if (!isOneCallback && older !== newer) return `the reply of ${older} may come after that of ${newer}, and both write ${thing.replace(/^the content of /, '')}`;
+  return `an older reply${older && older === newer ? ` of ${older}` : ''} may come after a newer one`;
+}
+
 /** @type {{[verb: string]: string}} by the verb of a side */
 const READS = { 'looks up': 'looks it up', 'writes again': 'writes it again' };
 
@@ -43,7 +53,7 @@ const SENTENCES = {
   act: ({ sides, thing }) => `${thing}, set after ${sides[1].act || 'an act of the user'}, may be overwritten`,
   undefined: ({ thing, kind }) => `${thing} may not be ${kind === 'element' ? 'in the page' : thing.startsWith('`') ? 'defined' : 'set'} yet`,
   missed: ({ sides }) => `${eventOrActor(sides[1])} may come before its handler is registered`,
-  replies: ({ sides: [one, other] }) => `an older ${(one.reply === other.reply && one.reply) || 'reply'} may overwrite a newer one`,
+  replies: ofReplies,
   other: neutral,
   flag: ({ thing }) => `${thing} is a flag that one side sets and the other side reads`,
   ended: ({ ended }) => `${ended?.callback}${ended?.callback.includes(', ') ? ',' : ''} may run before ${ended?.place || 'other code'} clears it`,

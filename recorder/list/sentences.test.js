@@ -6,7 +6,7 @@ const { test } = require('node:test');
 const { LOOKS } = require('./patterns/table.js');
 const { sentenceOf } = require('./sentences.js');
 
-const SIDE = { verb: '', what: '', place: '', actor: 'DOMContentLoaded', event: '', act: '', reply: '', at: null, own: null };
+const SIDE = { verb: '', what: '', place: '', actor: 'DOMContentLoaded', event: '', act: '', at: null, own: null };
 
 /**
  * @typedef {import('./sentences.js').Facts} Facts
@@ -32,9 +32,13 @@ test('an element is not in the page yet, and a variable is not defined yet', () 
   assert.strictEqual(sentence('undefined', { kind: 'element', thing: '`#offer`' }), '`#offer` may not be in the page yet');
   assert.strictEqual(sentence('undefined', { thing: 'the class of div' }), 'The class of div may not be set yet');
   assert.strictEqual(sentence('missed'), 'DOMContentLoaded may come before its handler is registered');
-  const [one, other] = ['a.json', 'b.json'].map((name) => ({ ...SIDE, reply: `reply of ${name}` }));
-  assert.strictEqual(sentence('replies', { sides: [one, one] }), 'An older reply of a.json may overwrite a newer one');
-  assert.strictEqual(sentence('replies', { sides: [one, other] }), 'An older reply may overwrite a newer one');
+});
+
+test('two replies are named by their requests, the older one first', () => {
+  const of = (/** @type {boolean} */ isOneCallback, newer = 'b.json') => sentence('replies', { thing: 'the content of div#plot', replies: { older: 'a.json', newer, isOneCallback, isInOrder: true, replace: '' } });
+  assert.strictEqual(of(false), 'The reply of a.json may come after that of b.json, and both write div#plot');
+  assert.strictEqual(of(true), 'An older reply may come after a newer one');
+  for (const isOne of [true, false]) assert.strictEqual(of(isOne, 'a.json'), 'An older reply of a.json may come after a newer one');
 });
 
 test('one act of a user, or two', () => {

@@ -43,10 +43,10 @@ async function repliesOf(calls) {
 
 test('"also" names only callbacks whose access is at the place that is shown', async () => {
   assert.deepStrictEqual(await repliesOf([69, 98, 105]), [['app.js:69:6', 'reply of data-1.json', ''], ['app.js:98:6', 'reply of data-2.json', '']]);
-  assert.deepStrictEqual((await repliesOf([69, 98, 98])).map(([, , also]) => also), ['', '(also data-3.json)']);
 });
 
-test('of several races that is shown whose two places most have', async () => {
+test('of several races of replies one is shown in which a callback writes over what it wrote itself, if there is one', async () => {
+  assert.deepStrictEqual(await repliesOf([69, 98, 98]), [['app.js:98:6', 'reply of data-2.json', ''], ['app.js:98:6', 'reply of data-3.json', '(also data-2.json)']]);
   assert.deepStrictEqual((await repliesOf([69, 98, 98, 98, 98])).map(([place]) => place), ['app.js:98:6', 'app.js:98:6']);
 });
 
@@ -116,6 +116,23 @@ test('two sides of one act of a user are not told as two acts', async () => {
   };
   assert.deepStrictEqual(await toldOf(1001), [['One act of a user runs two handlers that reach `x`', 'usually none: the browser decides the order', 'both come from one act of a user']]);
   assert.deepStrictEqual(await toldOf(2000), [['Two acts of a user reach `x`', FIXES.acts, 'two acts of a user']]);
+});
+
+test('one act of a user and two are two entries, also at one location; of one problem with both, two acts are shown', async () => {
+  /** @param {Place[]} places of the writes */
+  const entriesAt = async (places) => {
+    const eventsOf = (/** @type {number} */ k, /** @type {string} */ type) => [`fire ${k} 1 ${type}`, `run ${k} 0 ${k % 2 ? 1 : 2}`, 'w var 0 x', `close ${k}`];
+    const acts = [...eventsOf(1, 'mousedown'), ...eventsOf(2, 'click'), ...eventsOf(3, 'mousedown'), ...eventsOf(4, 'click')];
+    const dispatches = Object.fromEntries([1, 2, 3, 4].map((k) => [k, { type: k % 2 ? 'mousedown' : 'click', act: k < 3 ? 1000 + k : 2000 + k }]));
+    const listing = await listingOf(['parse 0 1 plain', 'parse 0 2 inline', 'exec 2', 'on 1', 'on 2', ...acts], {
+      elements: { 1: { tag: 'button', id: 'go' } }, handlers: { 1: { type: 'mousedown', target: 1 }, 2: { type: 'click', target: 1 } }, dispatches, places: Object.fromEntries(places.map((place, k) => [1 + 5 + 4 * k + 3, place])),
+    });
+    return listing.told().map(({ line, others }) => [listing.entryOf(line, others).sentence, detailOf(listing.entryOf(line, others), 'fix')]);
+  };
+  const [one, two] = [['One act of a user runs two handlers that reach `x`', 'usually none: the browser decides the order'], ['Two acts of a user reach `x`', FIXES.acts]];
+  const apart = await entriesAt([[0, 1, 1], [0, 2, 1], [0, 3, 1], [0, 4, 1]]);
+  assert.deepStrictEqual([...new Set(apart.map(String))].sort(), [String(one), String(two)].sort());
+  assert.deepStrictEqual(await entriesAt([[0, 1, 1], [0, 2, 1], [0, 1, 1], [0, 2, 1]]), [two], 'one problem has races of both');
 });
 
 test('the event of a race has the label of its element', async () => {

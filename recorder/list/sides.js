@@ -7,6 +7,7 @@ const { shown } = require('../common/shown.js');
 const { Callbacks } = require('./callbacks.js');
 const { ElementWords } = require('./element-words.js');
 const { fixOf } = require('./fixes.js');
+const { EVENTS, isInLibraries, lookUpOf, repliesOf } = require('./race-facts.js');
 const { callOf, wayOf } = require('./registering-calls.js');
 const { isRemoval } = require('./patterns/removals.js');
 const { sentenceOf } = require('./sentences.js');
@@ -18,16 +19,15 @@ const { sentenceOf } = require('./sentences.js');
  * @typedef {import('./problems.js').Problems} Problems
  */
 /**
- * `verb` and `what` say what it does, `actor` the callback or the event. `event` is set for an event that looks for handlers, `act` for a user's act,
- * `reply` for a reply. `own` is `at`, or the place from which that comes, if it is in the page's own code.
- * @typedef {{verb: string, what: string, place: string, actor: string, event: string, act: string, reply: string, at: Place|null, own: Place|null}} Side
+ * `verb` and `what` say what it does, `actor` the callback or the event. `event` is set for an event that looks for handlers, `act` for a user's act. `own`
+ * is `at`, or the place from which that comes, if it is in the page's own code.
+ * @typedef {{verb: string, what: string, place: string, actor: string, event: string, act: string, at: Place|null, own: Place|null}} Side
  */
 /**
  * The sentence without its place, that place, the two sides, the call that registers a late handler, and a usual change.
  * @typedef {{sentence: string, place: string, sides: [Side, Side], call: string, fix: string}} Told
  */
 
-const EVENTS = new Set(['fire', 'wfire', 'inline']);
 const NAME = /^[\w$.]+$/;
 /** Names of properties that no code can write after a dot; `(items)`, `[key]` and `#name` are none. */
 const KEY = /^(?![([#])[\p{L}\p{N}_$][^`"\\]{0,40}$/u;
@@ -122,7 +122,7 @@ class Sides {
     const what = isEvent ? event?.target || this.callbacks.of(number) : this.thing(location);
     return {
       verb, what, at, place: this.placeAndWay(at, lines[k], location), actor: isEvent && event ? '' : this.callbacks.of(number), event: event?.words || '',
-      act: this.actInWords(number), reply: this.replyOf(number), own: at && !this.words.isOfLibrary(at) ? at : this.callbacks.ownOrigin(number),
+      act: this.actInWords(number), own: at && !this.words.isOfLibrary(at) ? at : this.callbacks.ownOrigin(number),
     };
   }
 
@@ -178,16 +178,6 @@ class Sides {
   }
 
   /**
-   * The reply whose event an action is in, as `reply of GET cart`.
-   * @param {number} number of the action
-   * @returns {string} '' if it is in none
-   */
-  replyOf(number) {
-    const request = this.problems.userActs.requestOf(number);
-    return request ? `reply of ${this.callbacks.request(request).replace(/[?#].*$/, '')}` : '';
-  }
-
-  /**
    * What an access does, in a word.
    * @param {string} kind @param {string} mode @param {number} line @param {string} location
    */
@@ -222,36 +212,12 @@ class Sides {
     const at = sides[0].own || sides[1].own || sides[0].at || sides[1].at;
     const thing = kind === 'handler' ? this.thing(race.location) : marked(this.thing(race.location));
     const subjects = this.callbacks.subjects(race.actions[first], race.actions[1 - first]);
-    const [event, ofOneAct] = [this.lookUpOf(race), this.problems.userActs.ofOneAct(race.actions)];
-    const ended = this.problems.ended.inWords(race, this.callbacks, (line) => this.place(this.words.placeOfLine(line), false));
-    const facts = { sides, subjects, thing, ofOneAct, field: this.field(race.location), modes: race.modes, kind, isReplaced: this.problems.isReplaced(race), otherwise: event.otherwise, ended };
-    return { sentence: sentenceOf(look, facts), place: at ? this.place(at, false) : this.page(), sides, call: callOf(this.words, race), fix: fixOf(look, { kind, isOfUser: !!sides[0].act, modes: race.modes, isOfOneAct: !!ofOneAct, isInLibraries: this.isInLibraries(race), ...event }) };
-  }
-
-  /**
-   * Of an event that looks for handlers: the tag of its target, what the browser does without a handler, whether a library registers it, and in what the page
-   * itself registers one of the document or the window.
-   * @param {Race} race
-   * @returns {{isByLibrary?: boolean, ofPage?: ''|'script'|'callback', tag?: string, otherwise?: string}}
-   */
-  lookUpOf({ location, modes, lines, actions }) {
-    const reader = modes.indexOf('r');
-    if (!location.startsWith('slot ') || reader < 0) return {};
-    const isByLibrary = !!wayOf(this.words, lines[1 - reader], location, this.words.placeOfAccess(lines[1 - reader], actions[1 - reader]));
-    const from = this.words.actions.list[this.firstOf(actions[1 - reader])].words[0] === 'exec' ? 'script' : 'callback';
-    const ofPage = !isByLibrary && this.elements.isOfPage(location.split(' ')[1]) ? from : '';
-    const { words: [word, , element, type] } = this.words.actions.list[this.firstOf(actions[reader])];
-    if (!EVENTS.has(word) || word === 'wfire') return { isByLibrary, ofPage };
-    return { isByLibrary, ofPage, tag: this.elements.tagOf(element), otherwise: this.elements.withoutHandler(element, this.words.unescape(type)) };
-  }
-
-  /**
-   * Whether libraries make both accesses, and one of them in no call of the page's own code that is known.
-   * @param {Race} race
-   */
-  isInLibraries({ lines }) {
-    const places = lines.map((line) => this.words.placeOfLine(line));
-    return places.every((place) => place && this.words.isOfLibrary(place)) && lines.some((line) => !this.problems.names.callers?.[line]);
+    const event = lookUpOf(this, race);
+    const replies = look === 'replies' ? repliesOf(this, race) : undefined;
+    const ended = look === 'ended' ? this.problems.ended.inWords(race, this.callbacks, (line) => this.place(this.words.placeOfLine(line), false)) : null;
+    const ofOneAct = this.problems.userActs.ofOneAct(race.actions);
+    const facts = { sides, subjects, thing, ofOneAct, field: this.field(race.location), modes: race.modes, kind, isReplaced: this.problems.isReplaced(race), otherwise: event.otherwise, replies, ended };
+    return { sentence: sentenceOf(look, facts), place: at ? this.place(at, false) : this.page(), sides, call: callOf(this.words, race), fix: fixOf(look, { kind, isOfUser: !!sides[0].act, modes: race.modes, isOfOneAct: !!ofOneAct, isInLibraries: isInLibraries(this, race), replace: replies?.replace, ...event }) };
   }
 
   /**

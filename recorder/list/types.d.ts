@@ -96,11 +96,19 @@ export interface Names {
 export interface Verdict {
   race: number;
   verdict: string;
+  /** Whether it differs by itself or only by other races, is the same, or was not reversed; only of er_page and er_replay. */
+  kind?: 'differs'|'others'|'same'|'not';
   effect?: string;
+  /** The worst effect that comes from no other race. */
+  ownEffect?: string;
+  /** The other races from which differences come. */
+  from?: number[];
+  /** Whether its handler ran and only read. */
+  isReader?: boolean;
   words: string;
   /** The short form for the list. */
   sentence?: string;
-  differences?: { kind: string }[];
+  differences?: { kind: string, from?: number[] }[];
 }
 
 /** A page load of a suite, as it was recorded. */

@@ -54,7 +54,7 @@ const RECORDING = `Recording:
                     is matched against names of files, not of hosts, and replaces the
                     built-in list (jquery, react and others); with "none", no file is
                     a library
-  --keep            keep accesses that are left out since no race can come of them
+  --keep            keep accesses that are left out since almost no race comes of them
   --format 1|2|3    version of the trace format (3)`;
 
 const LISTING = `  --known FILE      list known races separately: those whose names are in FILE; the

@@ -74,6 +74,7 @@ function startRecorder(window, send, maker) {
   if (recording && !isTop && !recording.contexts.length) recording.startTask();
   const number = isTop ? 0 : recording ? numberOfFrame(window, recording, true) : -1;
   if (!recording || number < 0) {
+    if (recording) recording.unmarked.noteAnywhere();
     setHelpers(window, idleHelpers(), false);
     return;
   }

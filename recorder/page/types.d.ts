@@ -35,7 +35,7 @@ export interface Settings extends OwnNames {
   isDriven: boolean;
   /** Whether the page stands still when the recording is over. */
   standsStill: boolean;
-  /** How many turns a page takes that never rests (replay/turns.js). */
+  /** How many turns a page takes that never rests (replay/found/turns.js). */
   turns: { word: string, place: string, count: number } | null;
   /** The seed of what is held back by chance (tasks/chaos.js), or null. */
   chaos: number | null;

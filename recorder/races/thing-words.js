@@ -201,6 +201,7 @@ class ThingWords {
     const { scope, text, made, name, place } = (this.names.objects || {})[number] || {};
     if (scope === '{') return `the block${this.at(place)}`;
     if (scope !== undefined) return scope ? `the closure of ${shown(scope)}()${this.at(place)}` : `the closure of the function${this.at(place)}`;
+    if (made === 'prototype' && name) return `${shown(name)}.prototype`;
     const what = made === 'function' && name ? `the function ${shown(name)}` : `the ${shown(made || 'object')}`;
     const known = text ? `${shown(text)}, ${what}` : what;
     return place ? `${known} first used${this.at(place)}` : known;

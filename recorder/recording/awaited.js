@@ -102,7 +102,10 @@ class Awaited {
   }
 }
 
-/** Runs in the page, in a world of its own: how far it is scrolled, or null if something moves, plays or loads by itself. */
+/**
+ * Runs in the page, in a world of its own: how far it is scrolled, or null if something moves, plays or loads by itself. An animation without an end does
+ * not count, as it would never be over.
+ */
 function placeAtRest() {
   const documents = [document];
   /** @type {NodeListOf<HTMLIFrameElement|HTMLFrameElement>} */

@@ -10,14 +10,13 @@ const { UsageFault } = require('../options/parse.js');
  * @param {CommandOptions} options
  */
 function checkOptions(options) {
-  const { attach, writesKnown, known, runs, isReplayed, isNeverReplayed } = options;
+  const { attach, writesKnown, known, isReplayed, isNeverReplayed } = options;
   const isActing = options.actions.length > 0 || options.clicks > 0 || options.isRaw;
   if (attach && isActing) throw new UsageFault('--attach cannot be combined with --do, --clicks or --raw: the driver acts');
   if (writesKnown && !known) throw new UsageFault('--write-known requires --known FILE');
   if ((options.wanted.length || options.suiteTime) && !options.replayWith) throw new UsageFault('--replay and --time require --replay-with COMMAND');
   checkMany(options);
   checkFlow(options);
-  if (runs > 1 && isReplayed) throw new UsageFault('--replay cannot be combined with --runs');
   if (isReplayed && isNeverReplayed) throw new UsageFault('--no-replay cannot be combined with --replay or --race');
 }
 

@@ -68,7 +68,7 @@ function ownersIn(window) {
  */
 function settingsCode(handlerOwners, {
   depth = 'objects', keepsAll, handlerNames = HANDLER_NAMES, libraries = null, holds = null, fixed = null, standsStill = false, turns = null, isDriven = false,
-  chaos = null, stamps = false,  binding = '', secret = '',
+  chaos = null, stamps = false, binding = '', secret = '',
 }) {
   /** @type {Omit<import('../page/types').Settings, 'handlerOwners'>} */
   const settings = {

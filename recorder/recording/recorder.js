@@ -5,7 +5,7 @@
 
 const { Chromium } = require('../browser/chromium.js');
 const { resolveAddress } = require('../browser/folder.js');
-const { Tab } = require('../browser/tab.js');
+const { Tab, WINDOW } = require('../browser/tab.js');
 const { User } = require('../browser/user.js');
 const { credentialsOf, withoutCredentials } = require('../common/address.js');
 const { printErrorOnce } = require('../common/output.js');
@@ -18,7 +18,6 @@ const { Rest } = require('./rest.js');
 const { signIn } = require('./signed-in.js');
 const { Session, RecordingFault, GRACE } = require('./session.js');
 
-const SIZE = { width: 1100, height: 800 };
 const POLL = 50;
 const LOAD_TIME = `(() => {
   const [navigation] = performance.getEntriesByType('navigation');
@@ -56,7 +55,7 @@ class Recorder extends Session {
     /** @type {Rest} */
     this.rest = new Rest(this);
     this.acts = new Acts(this, this.rest);
-    /** @type {any} of a run that is compared: the page's state at its end, which only a replay writes and reads (replay/end-state.js) */
+    /** @type {any} of a run that is compared: the page's state at its end, which only a replay writes and reads (replay/found/end-state.js) */
     this.end = null;
     /** When the browser was ready to load the page, and when the end was. */
     this.startTime = 0;
@@ -113,7 +112,7 @@ class Recorder extends Session {
       this.browser = browser;
       browser.once('gone', (why) => this.stop(new RecordingFault(`the browser has gone: ${why}`, STATUS.failed)));
       if (!given) await this.startBrowser(browser);
-      this.tab = await Tab.open(browser, this.options.viewport || SIZE, !!this.options.userDataDir);
+      this.tab = await Tab.open(browser, this.options.viewport || WINDOW, !!this.options.userDataDir);
       await this.allowLocalNetwork(this.address);
     } catch (fault) {
       throw new RecordingFault(`the browser could not be started: ${messageOf(fault)}`, STATUS.failed);
@@ -123,7 +122,7 @@ class Recorder extends Session {
   /** @param {Chromium} browser */
   async startBrowser(browser) {
     const { viewport, ignoresCertificateErrors, userDataDir, isHeaded } = this.options;
-    browser.start({ ...viewport || SIZE, ignoresCertificateErrors, userDataDir, isHeaded });
+    browser.start({ ...viewport || WINDOW, ignoresCertificateErrors, userDataDir, isHeaded });
     if (!this.options.isRaw) this.prepareScripts();
     await browser.hasStarted();
   }

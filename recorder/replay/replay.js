@@ -6,6 +6,7 @@ const path = require('node:path');
 const { allOf } = require('../common/at-once.js');
 const { RecordingFault } = require('../recording/recorder.js');
 const { Confirm } = require('./confirm.js');
+const { Along } = require('./found/along.js');
 const { Differences } = require('./found/differences.js');
 const { checkOrder } = require('./found/lawful.js');
 const { countTurns } = require('./found/turns.js');
@@ -48,6 +49,7 @@ class Replay {
     this.recorded = new Recorded(recorder, options, traceFile, report);
     this.runs = new Runs(this.recorded, options);
     this.differences = new Differences(/** @type {import('../browser/protocol.js').Protocol} */ (recorder.browser));
+    this.along = new Along(this.recorded.orders, this.recorded.run.keys);
     this.inOrder = new InOrder(this.recorded, this.runs);
     this.free = new FreeRun(this.recorded, this.inOrder, this.differences);
     this.confirm = new Confirm(this.recorded, this.runs, this.differences, this.free, this.inOrder);
@@ -149,11 +151,13 @@ class Replay {
   async found(one, number, arrive) {
     const { run, reversal: { race, isLoose }, note = '' } = one;
     const { recorded, traceFile } = this;
-    const found = this.confirm.find(one, number, arrive);
+    const finding = this.confirm.find(one, number, arrive);
     const ordered = one.pair ? checkOrder({ traceFile, keys: recorded.run.keys, race, number }, { file: run.file, keys: run.keys, pair: one.pair }) : null;
-    await allOf(/** @type {Promise<unknown>[]} */ ([found, ordered]), isStop);
+    await allOf(/** @type {Promise<unknown>[]} */ ([finding, ordered]), isStop);
+    const found = await finding;
     return {
-      ...await found,
+      ...found,
+      turned: this.along.of(run, race, number, found.differences),
       note: [isLoose ? 'found again by looser names' : '', note].filter(Boolean).join('; '),
       group: recorded.orders.ofGroup(run, race),
       order: await ordered || undefined,

@@ -1,13 +1,22 @@
 'use strict';
 // What a replay found of a race, as one short sentence for the list: what the other order does to the page and its user, by the kind of effect.
 
+const { isOnlyOfOthers, ofOthers, ownOf, suspectsOf } = require('./attribution.js');
+
 /** @typedef {import('./types').Difference} Difference */
 /** @typedef {import('./types').Result} Result */
+/**
+ * Where the list has a race: the place at the start of its problem and of its entry ('' if it has none), and the number of the entry, -1 if it has none.
+ * @typedef {{own: string, place: string, index: number}} Where
+ */
 
 const LONGEST = 100;
 const LONGEST_WHY = 240;
 const MOST_PLACES = 3;
 const NONE = 'none';
+const READS_ONLY = 'the handler changed nothing that is recorded';
+/** @type {Where} */
+const NOWHERE = { own: '', place: '', index: -1 };
 
 /** @param {string} text */
 const cut = (text) => (text.length > LONGEST ? `${text.slice(0, LONGEST)}..` : text);
@@ -57,6 +66,27 @@ const CLAUSES = {
   load: ({ other }) => `the load event of the window ${other}`,
   request: ({ subject, other }) => `${cut(fileOf(subject))} is ${other === 'made' ? '' : 'not '}requested`,
   picture: () => 'the picture of the page differs',
+  suite: ({ other }) => `the suite fails (status ${other})`,
+};
+
+/**
+ * What differs, as the subject of a sentence, and its verb.
+ * @type {{[kind: string]: (one: Difference) => [subject: string, verb: string]}}
+ */
+const SUBJECTS = {
+  error: (one) => [`the uncaught error ${cut(one.subject)}`, isNew(one) ? 'comes' : 'is missing'],
+  'console error': (one) => [`the error in the console ${cut(one.subject)}`, isNew(one) ? 'comes' : 'is missing'],
+  text: () => ['the text', 'differs'],
+  'order of lines': () => ['the order of the lines', 'differs'],
+  element: (one) => [`the element ${cut(one.subject)}`, isNew(one) ? 'comes' : 'is missing'],
+  dialog: (one) => [`the dialog ${quoted(one.subject)}`, isNew(one) ? 'opens' : 'is missing'],
+  field: (one) => [`the ${one.subject}`, 'differs'],
+  title: () => ['the title', 'differs'],
+  hash: () => ['the hash of the address', 'differs'],
+  focus: () => ['the focus', 'differs'],
+  load: () => ['the load event of the window', 'differs'],
+  request: (one) => [`the request of ${cut(fileOf(one.subject))}`, one.other === 'made' ? 'comes' : 'is missing'],
+  picture: () => ['the picture of the page', 'differs'],
 };
 
 /**
@@ -112,7 +142,7 @@ function isAt(words, place) {
  * @param {string} location
  * @param {string} place of the race's handler
  */
-function ownOf(differences, worst, location, place) {
+function eventOf(differences, worst, location, place) {
   const [, type] = /^slot \d+ ([^/\s]+)/.exec(location) || [];
   const own = differences.filter(({ kind, isOfUser, subject }) => kind === worst.kind && isOfUser === worst.isOfUser && subject.startsWith(`the ${type} `));
   if (worst.kind !== 'event') return worst;
@@ -131,16 +161,36 @@ function withLabel(one, event) {
 }
 
 /**
- * Other races that came in another order too: where a reader finds them, or else their numbers.
- * @param {number[]} astray
- * @param {string} place of the race itself
- * @param {(number: number) => string} placeOf
+ * Other races in words: the places of their entries in the list. Called by verdict.js.
+ * @param {number[]} numbers
+ * @param {Where} own
+ * @param {(number: number) => Where} whereOf
+ * @param {boolean} [hasOrder] whether the words say if an entry is above or below
  */
-function othersOf(astray, place, placeOf) {
-  const places = [...new Set(astray.map(placeOf))].filter((one) => one !== place);
-  if (!places.length || places.includes('')) return `race${astray.length > 1 ? 's' : ''} ${astray.join(', ')}`;
+function racesInWords(numbers, own, whereOf, hasOrder = false) {
+  const all = numbers.map(whereOf);
+  const inOrder = (/** @type {Where} */ { place, index }) => (hasOrder ? `${place} (${index < own.index ? 'above' : 'below'})` : place);
+  const places = [...new Set(all.filter(({ place, index }) => place && index !== own.index).map(inOrder))];
+  if (!places.length) {
+    const ofEntry = all.every(({ index }) => index >= 0 && index === own.index) ? ' of this entry' : '';
+    return numbers.length > 1 ? `${numbers.length} other races${ofEntry}` : `another race${ofEntry}`;
+  }
   const more = places.length - MOST_PLACES;
-  return `the race${places.length > 1 ? 's' : ''} at ${places.slice(0, MOST_PLACES).join(', ')}${more > 0 ? ` and ${more} more place${more > 1 ? 's' : ''}` : ''}`;
+  return `${hasOrder ? '' : `the race${places.length > 1 ? 's' : ''} at `}${places.slice(0, MOST_PLACES).join(', ')}${more > 0 ? ` and ${more} more place${more > 1 ? 's' : ''}` : ''}`;
+}
+
+/**
+ * What differs only since other races came in the other order too, and which.
+ * @param {Result} result
+ * @param {Where} own
+ * @param {(number: number) => Where} whereOf
+ */
+function ofOthersInWords(result, own, whereOf) {
+  const others = ofOthers(result);
+  const one = others.find(({ kind }) => kind !== 'picture') || others[0];
+  const [subject, verb] = (SUBJECTS[one.kind] || (() => [one.subject, 'differs']))(one);
+  const start = result.isReader ? READS_ONLY : 'it makes no difference of its own';
+  return `${start}; ${subject} ${verb} too, which comes from ${racesInWords(one.from || [], own, whereOf, true)}`;
 }
 
 /**
@@ -156,19 +206,23 @@ function ofNotTurned({ why = '', chance }) {
 /**
  * Called by verdict.js.
  * @param {Result} result
- * @param {Difference|undefined} worst the worst difference, if there is one
+ * @param {Difference|undefined} worst the worst of its own differences, if there is one
  * @param {string} location of the race
- * @param {string} place of the problem in the list
- * @param {(number: number) => string} placeOf the places of other races in the list; '' if it has none
+ * @param {number} number of the race
+ * @param {(number: number) => Where} whereOf where the list has a race
  * @param {string} event of the race, as the list has it; '' if it has none
  */
-function sentenceOf(result, worst, location = '', place = '', placeOf = () => '', event = '') {
-  const { verdict, differences = [], astray = [] } = result;
-  if (verdict !== 'turned') return ofNotTurned(result);
-  const found = worst ? ofDifferences(differences, withLabel(ownOf(differences, worst, location, place), event)) : ofNone(result);
-  if (!astray.length) return found;
-  const others = othersOf(astray, place, placeOf);
-  return worst ? `${found}; some of it may come from ${others}, which came in another order too` : `${found}; ${others} came in another order too`;
+function sentenceOf(result, worst, location = '', number = 0, whereOf = () => NOWHERE, event = '') {
+  if (result.verdict !== 'turned') return ofNotTurned(result);
+  const where = whereOf(number);
+  if (isOnlyOfOthers(result)) return ofOthersInWords(result, where, whereOf);
+  const own = ownOf(result);
+  const found = worst ? ofDifferences(own, withLabel(eventOf(own, worst, location, where.own), event)) : ofNone(result);
+  const some = suspectsOf(result);
+  if (!some.length) return found;
+  const others = racesInWords(some, where, whereOf);
+  if (!worst) return `${found}; ${others} came in another order too`;
+  return `${found}; ${result.isReader ? `${READS_ONLY}, so ` : ''}some of it may come from ${others}, which came in another order too`;
 }
 
-module.exports = { sentenceOf };
+module.exports = { NOWHERE, racesInWords, sentenceOf };

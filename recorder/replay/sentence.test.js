@@ -3,8 +3,9 @@
 
 const assert = require('node:assert');
 const { test } = require('node:test');
-const { sentenceOf } = require('./sentence.js');
-const { worstOf } = require('./verdict.js');
+const { attribute } = require('./attribution.js');
+const { NOWHERE, sentenceOf } = require('./sentence.js');
+const { worstOf, worstOfOwn } = require('./verdict.js');
 
 /** @typedef {import('./types').Difference} Difference */
 /** @typedef {import('./types').Result} Result */
@@ -27,6 +28,7 @@ test('an effect of each kind is a short sentence', () => {
   assert.strictEqual(of(difference('request', 'GET http://localhost/a/cart.json', 'made', 'not made')), 'in the other order cart.json is not requested');
   assert.strictEqual(of(difference('request', 'POST http://shop.invalid/save', 'not made', 'made')), 'in the other order POST save is requested');
   assert.strictEqual(of(difference('picture', 'the picture', 'as recorded', '79 of 784300 points differ')), 'in the other order the picture of the page differs');
+  assert.strictEqual(of(difference('suite', "the suite's status", '0', '1')), 'in the other order the suite fails (status 1)');
 });
 
 test('two texts are one clause, more are told by the first', () => {
@@ -50,25 +52,44 @@ test('of several lost events the sentence has that of the race', () => {
   assert.match(sentenceOf({ verdict: 'turned', differences: [down, LOST] }, down, 'slot 12 load/5'), /^in the other order the mousedown at button#buy does not find/);
   const own = difference('event', 'the click at button#buy: the click handler at other.js:7, by way of jquery.js:2', 'x', 'not run', true);
   const far = difference('event', 'the click at button#buy: the click handler at other.js:71', 'x', 'not run', true);
-  assert.match(sentenceOf({ verdict: 'turned', differences: [LOST, far, own] }, LOST, 'slot 12 click/6', 'other.js:7'), /does not find the click handler at other\.js:7, by/);
+  assert.match(sentenceOf({ verdict: 'turned', differences: [LOST, far, own] }, LOST, 'slot 12 click/6', 1, () => ({ ...NOWHERE, own: 'other.js:7' })), /does not find the click handler at other\.js:7, by/);
 });
 
 test('the element of a lost event has the label that it has in the list', () => {
   const lost = difference('event', 'the click at button: the click handler onBuy', 'the click handler onBuy', 'not run', true);
-  const withEvent = (/** @type {string} */ event, one = lost) => sentenceOf({ verdict: 'turned', differences: [one] }, one, 'slot 12 click/5', '', () => '', event);
+  const withEvent = (/** @type {string} */ event, one = lost) => sentenceOf({ verdict: 'turned', differences: [one] }, one, 'slot 12 click/5', 0, undefined, event);
   assert.strictEqual(withEvent('click at button "First dataset"'), 'in the other order the click at button "First dataset" does not find the click handler onBuy, and nothing else differs');
   assert.match(withEvent('click at button.buy'), /the click at button\.buy does not find/);
   for (const other of ['', 'click at button', 'click at buttons "x"', 'mousedown at button "x"']) assert.match(withEvent(other), /the click at button does not find/);
   assert.match(withEvent('click at button#buy', LOST), /the click at button#buy does not find/);
 });
 
+/** Where the list has a race: by its number, the number of its entry and the place there. */
+const ENTRIES = [-1, 1, 0, 1, 2, 3, 4, 5];
+const PLACES = ['', 'own.js:1', 'a.js:1', 'own.js:1', 'b.js:2', 'c.js:3', 'd.js:4', 'e.js:5'];
+/** @param {number} number */
+const whereOf = (number) => ({ own: PLACES[number] ?? '', place: PLACES[number] ?? '', index: ENTRIES[number] ?? -1 });
+
 test('races that came in another order too are named by their places', () => {
-  const places = ['', 'own.js:1', 'a.js:1', 'own.js:1', 'b.js:2', 'c.js:3', 'd.js:4', 'e.js:5'];
-  const one = (/** @type {number[]} */ ...astray) => sentenceOf({ verdict: 'turned', differences: [LOST], astray }, LOST, 'slot 1 click/1', 'own.js:1', (number) => places[number] ?? '').split('; ')[1];
+  const one = (/** @type {number[]} */ ...astray) => sentenceOf({ verdict: 'turned', differences: [LOST], astray }, LOST, 'slot 1 click/1', 1, whereOf).split('; ')[1];
   assert.strictEqual(one(2, 3), 'some of it may come from the race at a.js:1, which came in another order too');
   assert.strictEqual(one(2, 4), 'some of it may come from the races at a.js:1, b.js:2, which came in another order too');
   assert.strictEqual(one(2, 4, 5, 6, 7), 'some of it may come from the races at a.js:1, b.js:2, c.js:3 and 2 more places, which came in another order too');
-  assert.strictEqual(one(3, 99), 'some of it may come from races 3, 99, which came in another order too');
+  assert.strictEqual(one(3), 'some of it may come from another race of this entry, which came in another order too');
+  assert.strictEqual(one(3, 99), 'some of it may come from 2 other races, which came in another order too');
+});
+
+test('what comes from another race is named with the place of that one', () => {
+  const typed = difference('field', 'value of input#q', 'themex', 'theme', true);
+  const key = { ...LOST, subject: 'the keydown at input#q: the keydown handler at keys.js:2' };
+  const reader = { number: 4, result: /** @type {Result} */ ({ verdict: 'turned', differences: [key, typed], astray: [2], turned: { races: [2], readers: [4], owners: [[4], [2]] } }) };
+  const said = () => sentenceOf(reader.result, worstOfOwn(reader.result)?.difference, 'slot 1 keydown/1', 4, whereOf);
+  attribute([reader]);
+  assert.strictEqual(said(), 'the handler changed nothing that is recorded; the value of input#q differs too, which comes from a.js:1 (above)');
+  reader.result.turned = { races: [2, 5], readers: [4], owners: [[4], []] };
+  attribute([reader]);
+  assert.strictEqual(said(), 'in the other order the keydown at input#q does not find the keydown handler at keys.js:2, and the value of input#q is "theme" instead of "themex"; '
+    + 'the handler changed nothing that is recorded, so some of it may come from the races at a.js:1, c.js:3, which came in another order too');
 });
 
 test('a race that no run was made for can have come in the other order by itself', () => {
@@ -81,6 +102,6 @@ test('what has no visible difference, or was not turned', () => {
   const seen = [difference('text', 'slow', 'none', 'slow')];
   assert.strictEqual(told({ differences: [] }), 'no visible difference');
   assert.strictEqual(told({ differences: [], byDelay: seen }), 'no visible difference, except what a delay in the recorded order does too');
-  assert.strictEqual(told({ differences: [], unsteady: seen, astray: [4] }), 'no visible difference, except what differs by itself; race 4 came in another order too');
+  assert.strictEqual(told({ differences: [], unsteady: seen, astray: [4] }), 'no visible difference, except what differs by itself; another race came in another order too');
   assert.strictEqual(told({ verdict: 'not turned', why: 'both come from one act of the user' }), 'could not be turned, which says nothing about the race: both come from one act of the user');
 });

@@ -150,6 +150,7 @@ class RunSteering {
 
   // ---- in the page
 
+  /** What the page gets of the holds (page/recording/steering.js). Called by driven/load-steering.js and replay/in-order.js. */
   forPage() {
     return this.holds.map((hold) => hold.forPage()).filter(Boolean);
   }

@@ -135,6 +135,18 @@ export interface Difference {
   recorded: string;
   other: string;
   boxes?: number[][];
+  /** The numbers of the other races that it comes from, if this is known (attribution.js). */
+  from?: number[];
+}
+
+/** What a run in which a race was reversed says of other races, by their numbers. */
+export interface Turned {
+  /** Those that came in the other order too. */
+  races: number[];
+  /** Of these and the race itself: those whose handler ran and only read. */
+  readers: number[];
+  /** By difference: those of them that both write what differs, or whose handler it is. */
+  owners: number[][];
 }
 
 /** What differs in the other order. */
@@ -177,4 +189,8 @@ export interface Result extends Partial<Found> {
   comparedAt?: string;
   unsent?: string[];
   trace?: string;
+  turned?: Turned;
+  /** Whether its handler ran and only read; whether a difference is at what both sides write (attribution.js). */
+  isReader?: boolean;
+  isProven?: boolean;
 }

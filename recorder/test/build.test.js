@@ -59,7 +59,7 @@ test('two acts of a user against each other fail no build unless it is asked for
   const words = ['--do', 'click:#list', '--do', 'click:#table', '--known', 'acts'];
   const plain = await pageOf('two-buttons.html', ...words, '--write-known');
   assert.strictEqual(plain.status, 0, plain.stderr);
-  assert.match(plain.stdout, /^-- another input, not another order\n\S*two-buttons\.html:\d+ {2}Two acts of a user reach `mode`/m);
+  assert.match(plain.stdout, /^-- only another input of the user changes the order\n\S*two-buttons\.html:\d+ {2}Two acts of a user reach `mode`/m);
   assert.strictEqual(read('acts').split('\n').filter((line) => line && !line.startsWith('#')).length, 0);
   const asked = await pageOf('two-buttons.html', ...words, '--acts');
   assert.strictEqual(asked.status, 1, asked.stderr);

@@ -18,7 +18,7 @@ function helpersOfWorld(window) {
     addWindow() {}, notePart: () => false, variableOf: () => null, call() {}, accessAttribute() {}, number: () => 1, isNode: () => false, valueOf: () => UNKNOWN,
   });
   Object.assign(window, { Node: class {}, Storage: class {} });
-  const globals = { read() {}, write() {}, update() {}, count() {}, valueOf: () => MISSING, noteValue() {} };
+  const globals = { lastPieces: [], read() {}, write() {}, update() {}, count() {}, valueOf: () => MISSING, noteValue() {} };
   objects.addWindow(/** @type {import('../page/types').Page} */ (/** @type {unknown} */ ({ window, globals }))); // as far as the helpers use one
   const { prototype } = window.Function;
   const { toString } = prototype;
@@ -28,7 +28,7 @@ function helpersOfWorld(window) {
   const first = (/** @type {Value} */ object) => object;
   const fo = (/** @type {Value} */ object, /** @type {string} */ name, /** @type {number} */ site, /** @type {Value} */ value) => value;
   return {
-    ...helpersOfObjects(objects), r: nothing, w: third, u: third, U: third, ro: first, wo: first, uo: first, fo, made: first, po: first, aw: first, ao: first, ai: first, ap: first,
+    ...helpersOfObjects(objects), r: nothing, w: third, u: third, U: third, ro: first, wo: first, uo: first, fo, made: first, un: first, po: first, aw: first, ao: first, ai: first, ap: first,
     as: nothing, scriptBegins: nothing, scriptEnds: nothing, lines, act,
   };
 }

@@ -23,7 +23,7 @@ const LOGS = 40;
 const LINES = 250;
 /** Together they have every kind of record. */
 const PAGES_OF_LOGS = ['messages.html', 'frames.html', 'inline-click.html', 'defer.html'];
-const WORDS = [...FORMS.map(({ word }) => word), 'look', 'module', 'is', 'asked', 'came', 'at', 'in', 'all', 'same', 'early', 'beside', 'into', 'end', 'webtrace', 'constructor'];
+const WORDS = [...FORMS.map(({ word }) => word), 'look', 'captures', 'module', 'is', 'asked', 'came', 'at', 'in', 'all', 'same', 'early', 'beside', 'into', 'end', 'webtrace', 'constructor'];
 const TOKENS = ['plain', 'inline', 'sync', 'defer', 'async', 'image', 'frame', 'var', 'elem', 'slot', 'unknown', 'known', 'own', 'first', 'k', 'r', 'w', 'click', '%FF', '%20', '__proto__', '\u001b[2J', ''];
 
 /** A generator of numbers that gives the same ones each time. */

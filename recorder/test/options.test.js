@@ -97,7 +97,6 @@ test('arguments that are wrong say which one', () => {
     [['--list', 'x', '--sitemap', 'http://a/'], /^--list cannot be combined with --sitemap$/],
     [['--sitemap', 'file:///x'], /^--sitemap takes a web address$/],
     [['x', '--write-known'], /^--write-known requires --known FILE$/],
-    [['x', '--replay', '--runs', '2'], /^--replay cannot be combined with --runs$/],
     [['http://'], /^not a web address: http:\/\/$/],
     [['http://user:secret@/'], /^not a web address: http:\/\/\/?$/],
   ];

@@ -1,37 +1,49 @@
 'use strict';
-// What the list says of problems that were not replayed: `--most` is to blame only if it left some out.
+// Which races are replayed, and what the list says of those that are not: why, and a command that replays them.
 
 const assert = require('node:assert');
 const { test } = require('node:test');
+const { called } = require('../common/called.js');
 const { ReplayCommand } = require('../replay-command.js');
 
-const MOST = 'no (--most N replays more races)';
-const OTHERS = 'no (only other problems were replayed)';
+/** @typedef {{races?: number[], isReplayed?: boolean, most?: number|null, cookies?: [string, string][], mayChange?: boolean}} Given */
 
 /**
- * What is said of them, for a list of so many lines.
- * @param {number} lines
- * @param {{races?: number[], isReplayed?: boolean, most?: number|null}} given
+ * A command for a list of so many lines, each of another race; the runs of the lines are given.
+ * @param {number[]} runs by line
+ * @param {Given} given
  */
-function saidOf(lines, { races = [], isReplayed = true, most = null } = {}) {
-  const listing = { told: () => Array.from({ length: lines }, (_, k) => ({ line: { races: [k] } })), knownLines: () => [], entries: { notReplayedWords: MOST } };
-  const judged = { report: { races: Array.from({ length: lines }, () => ({})) }, listing };
-  const options = { name: 'er_page', races, isReplayed, most };
+function commandOf(runs, { races = [], isReplayed = true, most = null, ...more } = {}) {
+  const lines = runs.map((run, k) => ({ run, first: k, races: [k] }));
+  const listing = { told: () => lines.map((line) => ({ line, others: [] })), knownLines: () => [], entries: { notReplayedWords: (/** @type {object} */ _) => '' } };
+  const judged = { report: { races: runs.map(() => ({})) }, listing };
   /** @type {[any, any, string, any]} stand-ins that have only what is read */
-  const made = [{}, options, 'page.trace', judged];
+  const made = [{}, { name: 'er_page', races, isReplayed, most, ...more }, 'shop.races/page.trace', judged];
   const command = new ReplayCommand(...made);
-  command.noteLeftOut();
-  return [command.numbers().length, listing.entries.notReplayedWords];
+  command.noteLeftOut(`not among the first ${command.most()}`);
+  return { numbers: command.numbers(), words: lines.map((line) => listing.entries.notReplayedWords(line)) };
 }
 
-test('the limit is to blame if there are more lines than it', () => {
-  assert.deepStrictEqual(saidOf(21), [20, MOST]);
-  assert.deepStrictEqual(saidOf(6, { isReplayed: false }), [5, MOST]);
-  assert.deepStrictEqual(saidOf(4, { most: 3 }), [3, MOST]);
+/** @param {number} count */
+const linesOf = (count) => Array.from({ length: count }, () => 0);
+const REPLAY = `${called('er_replay')} shop.races/page.trace --race`;
+
+test('the first lines of the list are replayed, in its order', () => {
+  assert.deepStrictEqual(commandOf(linesOf(21)).numbers, Array.from({ length: 20 }, (_, k) => k + 1));
+  assert.deepStrictEqual(commandOf(linesOf(6), { isReplayed: false }).numbers, [1, 2, 3, 4, 5]);
+  assert.deepStrictEqual(commandOf(linesOf(4), { most: 3 }).numbers, [1, 2, 3]);
+  assert.deepStrictEqual(commandOf(linesOf(40), { races: [3, 30] }).numbers, [3, 30]);
 });
 
-test('it is not if all were replayed, or all that were chosen', () => {
-  assert.deepStrictEqual(saidOf(20), [20, OTHERS]);
-  assert.deepStrictEqual(saidOf(5, { isReplayed: false }), [5, OTHERS]);
-  assert.deepStrictEqual(saidOf(40, { races: [3, 30] }), [2, OTHERS]);
+test('a race of a later run is not replayed by its number, which is another race in the first run', () => {
+  const { numbers, words } = commandOf([0, 1, 0, 2]);
+  assert.deepStrictEqual(numbers, [1, 3]);
+  assert.strictEqual(words[1], `no (run 1 does not have it; ${called('er_replay')} shop.races/runs/2.trace --race 2 does it)`);
+  assert.strictEqual(words[3], `no (run 1 does not have it; ${called('er_replay')} shop.races/runs/3.trace --race 4 does it)`);
+});
+
+test('what is not replayed says why, with the command that replays it', () => {
+  assert.strictEqual(commandOf(linesOf(21)).words[20], `no (not among the first 20; ${REPLAY} 21 does it)`);
+  assert.strictEqual(commandOf(linesOf(21), { cookies: [['a', 'b']], mayChange: true }).words[20], `no (not among the first 20; ${REPLAY} 21 with --yes, --cookie as here does it)`);
+  assert.strictEqual(commandOf(linesOf(40), { races: [3, 30] }).words[5], '', 'others were chosen');
 });

@@ -136,7 +136,7 @@ test('the shop, by the command', { timeout: 400000 }, async () => {
   const all = JSON.parse(fs.readFileSync(sarif, 'utf8')).runs[0].results;
   const results = all.filter(({ properties }) => properties?.replay);
   assert.strictEqual(results.length, races.length);
-  results.forEach(({ message }) => assert.match(message.text, /Run again in the other order: turned: differs: /));
+  results.forEach(({ message }) => assert.match(message.text, / Replayed: in the other order /));
   await seeView(path.join(folder, 'shop.races', 'page.html'), races.length);
 });
 
@@ -167,7 +167,7 @@ for (const atOnce of ['1', '4']) {
     command.kill('SIGINT');
     assert.strictEqual(await command.ended, 130, command.said);
     assert.match(command.said, /er_page: stopped/);
-    assert.match(command.output, /^Replayed 1 of 3 races: 0 differ, 0 could not be turned, 1 have no visible difference\.$/m);
+    assert.match(command.output, /^Replayed 1 of 3 races: 0 differ, 1 without a visible difference\.$/m);
     const races = replayedIn(path.join(place, 'races.races'));
     assert.deepStrictEqual(races.map(({ verdict, effect }) => [verdict, effect]), [['turned', undefined]]);
     const view = fs.readFileSync(path.join(place, 'races.races', 'page.html'), 'utf8');

@@ -143,8 +143,9 @@ function elementName(number, names) {
  * An object by the text at which it was first met; a scope by its function.
  * @param {import('../list/types').ObjectFacts} facts
  */
-function objectName({ scope, text, made }) {
+function objectName({ scope, text, made, name }) {
   if (scope !== undefined) return `the closure of ${scope || '?'}`;
+  if (made === 'prototype') return `${name}.prototype`;
   return text || made || '?';
 }
 

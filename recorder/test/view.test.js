@@ -139,7 +139,7 @@ test('groups in words, a filter, and what folds out', { timeout: 150000 }, async
  */
 function replayOf(race, facts) {
   const none = { differences: [], beside: [], unsteady: [], byDelay: [], picture: null, groupWords: '' };
-  return { race, verdict: 'turned', words: 'turned: no visible difference', means: 'a timeout is put off', isListed: true, trace: `replays/${race}.trace`, ...none, ...facts };
+  return { race, verdict: 'turned', kind: 'same', words: 'turned: no visible difference', means: 'a timeout is put off', isListed: true, trace: `replays/${race}.trace`, ...none, ...facts };
 }
 
 test('races that were run again: what differs first, and the harmless folded', { timeout: 150000 }, async () => {
@@ -147,8 +147,8 @@ test('races that were run again: what differs first, and the harmless folded', {
   const lost = { kind: 'event', subject: 'the click: <b>', isSeen: true, recorded: 'buy', other: 'not run' };
   const replays = [
     replayOf(1),
-    replayOf(3, { verdict: 'not turned', words: 'could not be turned: <i>both</i> come from one act of the user' }),
-    replayOf(2, { effect: 'a lost act', words: 'turned: differs: lost event', differences: [lost] }),
+    replayOf(3, { verdict: 'not turned', kind: 'not', words: 'could not be turned: <i>both</i> come from one act of the user' }),
+    replayOf(2, { kind: 'differs', effect: 'a lost act', ownEffect: 'a lost act', words: 'turned: differs: lost event', differences: [lost] }),
   ];
   writePage(path.join(folder, 'again.trace'), { ...JSON.parse(await textOf(tab, '#model')), replays, recordedPicture: null });
   await load(tab, 'again');

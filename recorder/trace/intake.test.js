@@ -54,7 +54,7 @@ test('what is no line of a log is counted, and nothing throws', () => {
 
 test('lines that a recorder writes', () => {
   const lines = [
-    'parse 0 1 plain', 'parse 0 2 frame 1', 'early set 1 0 unknown', 'beside 2 new 0 4 plain', 'into 2 on 6', 'look 1 click', 'w slot 1 a/b/8', 'post 1 0 5', 'message 1 2 5', 'module 1',
+    'parse 0 1 plain', 'parse 0 2 frame 1', 'early set 1 0 unknown', 'beside 2 new 0 4 plain', 'into 2 on 6', 'look 1 click', 'look 1 click capture', 'captures 8', 'w slot 1 a/b/8', 'post 1 0 5', 'message 1 2 5', 'module 1',
     'is 1 4', 'asked 2', 'asked 2 known', 'came 1 2', 'at 1 var 3000000 %C3%A9 own', 'in 1 k 1', 'all w 1 first', 'same 1', 'r var 0 a\t3\ts1abc3\t7', 'on 1\thttp://a/b.js:1:2', '!{"a":1}',
     '#{"kind":"element","number":1,"tag":"p","id":"\\u001b"}', '#{"kind":"stack","number":1,"places":"http://a:1:2\\nhttp://b:3:4"}', '#{"kind":"held","number":1}',
   ];

@@ -6,7 +6,8 @@
 // - `early NOTE`: a note in the first action, as nothing recorded ran, or after the declaration of the frame whose document it names; `beside E NOTE`: after
 //   the declaration of element E; `into A NOTE`: at the end of action A, which may be long over: the stand-in of an event that A has queued, the handler of
 //   what requested something there. NOTE can be the write of a field by a key, which the key's `input` event does later.
-// - `look E TYPE`: reads of all slots of E for the type that the log ever writes.
+// - `look E TYPE`: reads of all slots of E for the type that the log ever writes; `look E TYPE capture`: of those of handlers that capture, which a line
+//   `captures H` names.
 // - `set T DELAY DOCUMENT`: `set`, or `every` where the timeouts of another window are the ones that are compared.
 // - `ask A`, `anim A`: so in version 3; before, `every` and `tick`.
 // - `post M DOCUMENT E`, `message M P E`: so in version 3, in the message a stand-in, an `inline` dispatch P at it, and its `back`; before, `new` of a plain
@@ -62,6 +63,7 @@ class Spelling {
     /** @type {SpelledEntry[]} */
     this.entries = placeNotes(entries);
     this.slots = collectSlots(this.entries);
+    this.capturers = new Set(this.entries.map(({ text }) => /^captures (\d+)$/.exec(text)?.[1]).filter(Boolean));
     this.moduleElements = collectModules(this.entries, 'is');
     this.askedModules = collectModules(this.entries, 'came');
     this.foreign = foreignTimeouts(this.entries, version);
@@ -82,7 +84,8 @@ class Spelling {
     this.refused = 0;
     /** @type {Map<string, (words: string[]) => void>} */
     this.words = new Map(Object.entries({
-      look: ([, element, type]) => this.spellLook(element, type),
+      look: ([, element, type, capture]) => this.spellLook(element, type, capture === 'capture'),
+      captures: () => {},
       set: ([, timeout, delay]) => this.spellSet(timeout, delay),
       timer: ([, timeout]) => this.put(this.foreign.has(timeout) ? `tick ${FIRST_FOREIGN_TIMEOUT + Number(timeout)}` : `timer ${timeout}`),
       ask: ([, number]) => this.put(version >= 3 ? `ask ${number}` : `every ${number} 0`),
@@ -131,11 +134,14 @@ class Spelling {
   /**
    * @param {string} element
    * @param {string} type
+   * @param {boolean} isOfCapturers
    */
-  spellLook(element, type) {
+  spellLook(element, type, isOfCapturers) {
     const slot = `slot ${element} ${type}`;
-    this.put(`r ${slot}`);
-    for (const one of this.slots.get(slot) || []) this.put(`r ${one}`);
+    if (!isOfCapturers) this.put(`r ${slot}`);
+    for (const one of this.slots.get(slot) || []) {
+      if (!isOfCapturers || this.capturers.has(one.slice(one.lastIndexOf('/') + 1))) this.put(`r ${one}`);
+    }
   }
 
   /**

@@ -28,6 +28,11 @@ test('a dispatch looks at each slot that was ever written', () => {
   assert.deepStrictEqual(spell(lines, 1), ['parse 0 1 plain', 'r slot 1 click', 'r slot 1 click/7', 'w slot 1 click/7', 'w slot 1 a/b/8', 'r slot 1 a/b', 'r slot 1 a/b/8']);
 });
 
+test('an event that does not bubble looks at slots of handlers that capture', () => {
+  const lines = ['parse 0 1 plain', 'look 1 focus', 'look 2 focus capture', 'w slot 2 focus', 'w slot 2 focus/7', 'w slot 2 focus/8', 'captures 8'];
+  assert.deepStrictEqual(spell(lines, 1), ['parse 0 1 plain', 'r slot 1 focus', 'r slot 2 focus/8', 'w slot 2 focus', 'w slot 2 focus/7', 'w slot 2 focus/8']);
+});
+
 test('timeouts of two windows are not compared', () => {
   const lines = ['parse 0 1 plain', 'set 1 5 0', 'set 2 5 1', 'parse 0 2 plain', 'set 3 5 1', 'timer 1', 'timer 2', 'timer 3'];
   assert.deepStrictEqual(spell(lines, 1).slice(1), ['set 1 5', 'every 3000000002 5', 'parse 0 2 plain', 'set 3 5', 'timer 1', 'tick 3000000002', 'timer 3']);

@@ -55,14 +55,18 @@ export interface Difference {
   recorded: string;
   other: string;
   boxes?: [number, number, number, number][];
+  /** The numbers of the other races that it comes from. */
+  from?: number[];
 }
 
 /** What a replay found of a race. */
 export interface ShownReplay {
   race: number;
   verdict: string;
+  kind: 'differs'|'others'|'same'|'not';
   words: string;
   effect?: string;
+  ownEffect?: string;
   means?: string;
   isListed?: boolean;
   note?: string;

@@ -4,7 +4,7 @@
 
 const { quote } = require('../marks/quote.js');
 const { nothing } = require('../walk/walker.js');
-const { isNamedSuper, mayEndBefore } = require('./member-marks.js');
+const { isNamedSuper, mayEndBefore, FRESH } = require('./member-marks.js');
 const { ValueMarks } = require('./value-marks.js');
 
 /**
@@ -22,16 +22,25 @@ const METHODS = new Set(['push', 'pop', 'shift', 'unshift', 'splice', 'sort', 'r
   'slice', 'concat', 'reduce', 'reduceRight', 'flat', 'flatMap', 'entries', 'keys', 'values', 'at', 'toSorted', 'toReversed', 'toSpliced', 'with',
   'get', 'set', 'has', 'delete', 'add', 'clear',
   'appendChild', 'insertBefore', 'removeChild', 'replaceChild', 'append', 'prepend', 'replaceChildren', 'hasChildNodes',
-  'getAttribute', 'hasAttribute', 'setAttribute', 'removeAttribute', 'toggleAttribute', 'contains', 'toggle']);
+  'getAttribute', 'getAttributeNode', 'hasAttribute', 'setAttribute', 'removeAttribute', 'toggleAttribute', 'getAttributeNames', 'hasAttributes', 'contains', 'toggle',
+  'cloneNode', 'getHTML', 'getPropertyValue', 'getPropertyPriority', 'setProperty', 'removeProperty']);
 /** Those whose first argument is a key. */
-const KEYED_METHODS = new Set(['get', 'set', 'has', 'delete', 'add', 'getAttribute', 'hasAttribute', 'setAttribute', 'removeAttribute', 'toggleAttribute']);
+const KEYED_METHODS = new Set(['get', 'set', 'has', 'delete', 'add', 'getAttribute', 'getAttributeNode', 'hasAttribute', 'setAttribute', 'removeAttribute', 'toggleAttribute',
+  'cloneNode', 'getPropertyValue', 'getPropertyPriority', 'setProperty', 'removeProperty']);
+/** Methods that read their first argument, an element, with all that is in it. */
+const COPIES = new Set(['importNode', 'serializeToString']);
 /** Functions of the browser that read their first argument as a whole (`Object.keys` and others), and the helpers for that. */
 const READERS = new Map([['keys', 'n'], ['getOwnPropertyNames', 'n'], ['ownKeys', 'n'], ['values', 'e'], ['entries', 'e'], ['from', 'i'], ['fromEntries', 'i'],
   ['stringify', 'e']]);
 /** Those whose second argument is a key of the first, and the helpers for that. */
-const KEYED_TOOLS = new Map([['get', 'k'], ['has', 'k'], ['set', 'l'], ['deleteProperty', 'h'], ['hasOwn', 'k'], ['defineProperty', 'l']]);
+const KEYED_TOOLS = new Map([['get', 'k'], ['has', 'k'], ['set', 'l'], ['deleteProperty', 'h'], ['hasOwn', 'k'], ['defineProperty', 'l'],
+  ['getOwnPropertyDescriptor', 'k']]);
+/** Those that write in their first argument what the others have, and the helpers for that. */
+const COPIERS = new Map([['assign', 'c'], ['defineProperties', 'D']]);
+/** Methods whose first argument is a name of the object. */
+const ASKS_FOR_NAME = new Set(['hasOwnProperty', 'propertyIsEnumerable']);
 /** Functions that are borrowed to ask an object for a name of its own. */
-const ASKS_FOR_OWN = /^has(Own|OwnProp|OwnProperty)$/;
+const ASKS_FOR_OWN = /^(has(Own|OwnProp|OwnProperty)|propertyIsEnumerable)$/;
 
 /** The name of a member that is written with a dot, or ''. */
 const nameOf = (/** @type {MemberExpression} */ { computed, property }) => (computed || property.type !== 'Identifier' ? '' : property.name);
@@ -66,12 +75,29 @@ class CallMarks extends ValueMarks {
     if (callee.type !== 'MemberExpression') super.CallExpression(node, scope);
     else if (callee.object.type === 'Super') this.callSuper(node, callee, scope);
     else if (METHODS.has(nameOf(callee)) && !this.isLeftOut(callee, scope) && !mayEndBefore(callee.object)) this.callMethod(node, callee, scope);
+    else if (ASKS_FOR_NAME.has(nameOf(callee)) && isValue(node.arguments[0]) && !FRESH.has(callee.object.type) && !mayEndBefore(callee.object)) this.callAsking(node, callee, scope);
     else {
       this.visit(callee, scope);
-      const close = this.markPosting(node);
+      const close = this.markMaking(node, scope);
+      const closePosting = this.markPosting(node);
       this.visitArguments(node, callee, scope);
+      closePosting();
       close();
     }
+  }
+
+  /**
+   * `a.b.hasOwnProperty(key)`: the object is kept for the mark of the key.
+   * @param {CallExpression} node
+   * @param {MemberExpression} callee
+   * @param {Scope} scope
+   */
+  callAsking(node, callee, scope) {
+    const isSimple = this.isSimple(callee.object, scope);
+    const close = isSimple ? nothing : this.inserter.wrap(callee.object, '(__er.t=', ')');
+    this.visit(callee, scope);
+    close();
+    this.visitKey(node.arguments, 0, callee.object, scope, 'k', isSimple ? this.inserter.textOf(callee.object) : '__er.t');
   }
 
   /**
@@ -123,8 +149,11 @@ class CallMarks extends ValueMarks {
    */
   visitArguments({ arguments: args }, callee, scope) {
     const name = nameOf(callee);
-    if (name === 'hasOwnProperty' && this.isSimple(callee.object, scope)) this.visitKey(args, 0, callee.object, scope, 'k');
-    else if (name === 'call') this.visitBorrowed(args, callee, scope);
+    if (name === 'call') this.visitBorrowed(args, callee, scope);
+    else if (COPIES.has(name) && isValue(args[0])) {
+      this.visitWrapped(args[0], scope, '__er.m(', `,${quote(name)},${this.siteOfWhole(args[0])})`);
+      this.visitAll(args.slice(1), scope);
+    }
     else if (this.isTool(callee, scope)) this.visitArgumentsOfTool(args, name, scope);
     else this.visitAll(args, scope);
   }
@@ -136,12 +165,24 @@ class CallMarks extends ValueMarks {
    * @param {Node} object
    * @param {Scope} scope
    * @param {string} helper
+   * @param {string} text how the mark reads the object
    */
-  visitKey(args, at, object, scope, helper) {
+  visitKey(args, at, object, scope, helper, text) {
     args.forEach((arg, k) => {
-      if (k === at && isValue(arg)) this.visitWrapped(arg, scope, `__er.${helper}(${this.inserter.textOf(object)},`, `,${this.siteAt(arg, object)})`);
+      if (k === at && isValue(arg)) this.visitWrapped(arg, scope, `__er.${helper}(${text},`, `,${this.siteAt(arg, object)})`);
       else this.visit(arg, scope);
     });
+  }
+
+  /**
+   * A call whose first argument is an object, and whose second one is a key of it.
+   * @param {Argument[]} args
+   * @param {Scope} scope
+   * @param {string} helper
+   */
+  visitObjectAndKey([first, ...rest], scope, helper) {
+    if (!isValue(first)) this.visitAll([first, ...rest], scope);
+    else this.visitKey(rest, 0, first, scope, helper, this.visitKept(first, scope));
   }
 
   /**
@@ -158,7 +199,7 @@ class CallMarks extends ValueMarks {
     if (isValue(first) && METHODS.has(method)) {
       this.visitWrapped(first, scope, '__er.m(', `,${quote(method)},${this.siteOfWhole(first)})`);
       this.visitAll(rest, scope);
-    } else if (isValue(first) && ASKS_FOR_OWN.test(borrowed) && this.isSimple(first, scope)) this.visitKey(args, 1, first, scope, 'k');
+    } else if (rest.length && ASKS_FOR_OWN.test(borrowed)) this.visitObjectAndKey(args, scope, 'k');
     else this.visitAll(args, scope);
   }
 
@@ -176,25 +217,32 @@ class CallMarks extends ValueMarks {
     const [first, ...rest] = args;
     const reader = READERS.get(name);
     const keyed = KEYED_TOOLS.get(name);
+    const copier = COPIERS.get(name);
     if (reader && isValue(first)) {
       this.visitWrapped(first, scope, `__er.${reader}(`, `,${this.siteOfWhole(first)})`);
       this.visitAll(rest, scope);
-    } else if (name === 'assign' && first) this.visitAssigned(first, rest, scope);
-    else if (keyed && first && this.isSimple(first, scope)) this.visitKey(args, 1, first, scope, keyed);
+    } else if (copier && rest.length && isValue(first)) this.visitCopied(first, rest, scope, copier);
+    else if (keyed && rest.length) this.visitObjectAndKey(args, scope, keyed);
     else this.visitAll(args, scope);
   }
 
   /**
-   * @param {Argument} target
+   * The mark of each source has the target, and keeps it for that of the next one. A list of sources (`...all`) may change what is kept.
+   * @param {Expression} target
    * @param {Argument[]} sources
    * @param {Scope} scope
+   * @param {string} helper
    */
-  visitAssigned(target, sources, scope) {
-    this.visit(target, scope);
-    const text = this.isSimple(target, scope) ? this.inserter.textOf(target) : 'null';
+  visitCopied(target, sources, scope, helper) {
+    const isFresh = FRESH.has(target.type);
+    let text = isFresh ? 'null' : this.visitKept(target, scope);
+    if (isFresh) this.visit(target, scope);
     for (const source of sources) {
-      if (isValue(source)) this.visitWrapped(source, scope, `__er.c(${text},`, `,${this.siteAt(source, target)})`);
-      else this.visit(source, scope);
+      if (isValue(source)) this.visitWrapped(source, scope, `__er.${helper}(${text},`, `,${this.siteAt(source, target)})`);
+      else {
+        this.visit(source, scope);
+        if (text === '__er.t') text = 'null';
+      }
     }
   }
 

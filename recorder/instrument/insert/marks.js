@@ -47,6 +47,22 @@ function isPosting(callee) {
   return name === 'postMessage' || ((name === 'call' || name === 'apply') && isPosting(callee.object));
 }
 
+/** Names by which code has the window. */
+const WINDOWS = new Set(['window', 'self', 'globalThis', 'top', 'parent', 'frames']);
+
+/**
+ * Whether a call makes code of a text: of `eval` or `Function`, also as `(0, eval)(x)` and `window.eval(x)`.
+ * @param {Node} callee
+ * @param {Scope} scope
+ * @returns {boolean}
+ */
+function isMaking(callee, scope) {
+  const isMaker = (/** @type {string|null} */ name) => name === 'eval' || name === 'Function';
+  if (callee.type === 'SequenceExpression') return isMaking(callee.expressions[callee.expressions.length - 1], scope);
+  if (callee.type === 'Identifier') return isMaker(callee.name) && scope.where(callee.name) !== 'local';
+  return callee.type === 'MemberExpression' && isMaker(knownProperty(callee)) && callee.object.type === 'Identifier' && WINDOWS.has(callee.object.name);
+}
+
 class Marks extends StatementMarks {
   /**
    * @param {string} code
@@ -253,9 +269,15 @@ class Marks extends StatementMarks {
 
   /** Code that is made of a text has no marks: that there is such code is reported. */
   markMaking(/** @type {CallExpression|NewExpression} */ { callee, arguments: args }, /** @type {Scope} */ scope) {
-    const isMaker = callee.type === 'Identifier' && (callee.name === 'eval' || callee.name === 'Function') && scope.where(callee.name) !== 'local';
     const last = args[args.length - 1];
-    return isMaker && last && last.type !== 'SpreadElement' ? this.inserter.wrap(last, '__er.made(', ')') : nothing;
+    return isMaking(callee, scope) && last && last.type !== 'SpreadElement' ? this.inserter.wrap(last, '__er.made(', ')') : nothing;
+  }
+
+  /** Names in a `with` have no marks. */
+  WithStatement(/** @type {import('../syntax/types').WithStatement} */ node, /** @type {Scope} */ scope) {
+    const close = this.inserter.wrap(node.object, '__er.un(', ')');
+    super.WithStatement(node, scope);
+    close();
   }
 
   /**

@@ -21,6 +21,8 @@ const BY_KEY = { r: 'k', w: 'l', u: 'j', U: 'J', d: 'h' };
 /** Names of the browser whose properties a page does not change. */
 const TOOLS = new Set(['Math', 'JSON', 'Object', 'Array', 'String', 'Number', 'Boolean', 'Symbol', 'Reflect', 'Promise', 'Date', 'console', 'performance',
   'navigator', 'location', 'history', 'screen', 'Intl', 'CSS', 'crypto']);
+/** Those of the language: what code puts there is marked, and its reads. */
+const TOOLS_OF_LANGUAGE = new Set(['Math', 'JSON', 'Object', 'Array', 'String', 'Number', 'Boolean', 'Symbol', 'Reflect', 'Promise', 'Date', 'console', 'Intl']);
 /** What is made where it is, or has no properties of its own. */
 const FRESH = new Set(['Super', 'Literal', 'TemplateLiteral', 'MetaProperty', 'ArrayExpression', 'ObjectExpression', 'FunctionExpression',
   'ArrowFunctionExpression', 'ClassExpression', 'BinaryExpression', 'UpdateExpression', 'UnaryExpression']);
@@ -53,6 +55,27 @@ function mayEndBefore(node) {
  */
 const isNamedSuper = (node) => node.type === 'MemberExpression' && node.object.type === 'Super' && !node.computed;
 
+/**
+ * Whether a member of a name of the language, as `Promise.x`, may be code's own: if it is written, or if the language has it not.
+ * @param {MemberExpression} member
+ * @param {string} name
+ * @param {Mode} mode
+ */
+function mayBePut({ computed, property }, name, mode) {
+  if (computed || property.type !== 'Identifier' || !TOOLS_OF_LANGUAGE.has(name)) return false;
+  return mode !== 'r' || !(property.name in /** @type {{[name: string]: any}} names of the language */ (globalThis)[name]);
+}
+
+/**
+ * Whether marks in an expression leave what a mark before it keeps: a variable, or a member by its names. (Code of a getter may not; then a wrong key is read.)
+ * @param {Node} node
+ * @returns {boolean}
+ */
+function keepsWhatIsKept(node) {
+  if (node.type === 'MemberExpression') return !node.computed && keepsWhatIsKept(node.object);
+  return node.type === 'ThisExpression' || node.type === 'Identifier';
+}
+
 /** Extended by value-marks.js. */
 class MemberMarks extends ClosureMarks {
   /**
@@ -79,11 +102,17 @@ class MemberMarks extends ClosureMarks {
     return this.site(start, { object: [object.start, object.end] });
   }
 
-  /** Whether nothing is reported of a member, by what its object is. */
-  isLeftOut(/** @type {MemberExpression} */ { object, optional }, /** @type {Scope} */ scope) {
+  /**
+   * Whether nothing is reported of a member, by what its object is.
+   * @param {MemberExpression} node
+   * @param {Scope} scope
+   * @param {Mode} [mode]
+   */
+  isLeftOut(node, scope, mode = 'r') {
+    const { object, optional } = node;
     if (FRESH.has(object.type) || (!optional && mayEndBefore(object))) return true;
     if (object.type !== 'Identifier') return false;
-    return object.name === 'arguments' || (TOOLS.has(object.name) && scope.where(object.name) === 'global');
+    return object.name === 'arguments' || (TOOLS.has(object.name) && scope.where(object.name) === 'global' && !mayBePut(node, object.name, mode));
   }
 
   /**
@@ -97,7 +126,7 @@ class MemberMarks extends ClosureMarks {
     const key = knownKey(node);
     if (read) this.inserter.callBefore(node.object, `${read})`)();
     else if (node.object.type === 'Super') this.visitSuper(node, scope, mode);
-    else if (this.isLeftOut(node, scope)) super.visitMember(node, scope, mode);
+    else if (this.isLeftOut(node, scope, mode)) super.visitMember(node, scope, mode);
     else if (key !== null) this.markNamed(node, scope, BY_NAME[mode], key);
     else this.markKeyed(node, scope, BY_KEY[mode]);
   }
@@ -215,7 +244,7 @@ class MemberMarks extends ClosureMarks {
       this.visitChildren(node, scope);
       return;
     }
-    const isKept = this.isSimple(right, scope) || right.type === 'Identifier';
+    const isKept = keepsWhatIsKept(right);
     const key = this.visitKeyOfIn(left, scope, isKept);
     if (key) this.visitWrapped(right, scope, '__er.o(', `,${key},${this.siteAt(left, right)})`);
     else this.visit(right, scope);

@@ -77,7 +77,7 @@ class ValueMarks extends MemberMarks {
     const isKeySimple = key !== null || this.isSimple(property, scope);
     const isWorth = mayRun(right) || (isSimple && key !== null);
     const canBe = isApart ? isSimple && isKeySimple : isSimple || isKeySimple;
-    if (!isWorth || !canBe || this.isLeftOut(left, scope)) return '';
+    if (!isWorth || !canBe || this.isLeftOut(left, scope, 'w')) return '';
     if (isApart) {
       this.visitMember(left, scope, 'r');
       return `${this.inserter.textOf(object)},${key ?? this.inserter.textOf(property)}`;

@@ -13,12 +13,14 @@
 //                of `super`           sp by a name, sk by a key: both read
 //                of `new`             N notes the object that a call makes
 // scopes.js      closure variables    s makes the scope of a call; v reads, z writes, y reads and writes, Y counts
-// wholes.js      whole objects        n their names, e all properties (a spread), i all items (a loop), d what a pattern takes, c what `Object.assign` copies
+// wholes.js      whole objects        n their names, e all properties (a spread), i all items (a loop), d what a pattern takes,
+//                c what `Object.assign` copies, D what `Object.defineProperties` defines
 //                methods              m of arrays, maps and elements; a their first argument, if it is a key
 //                with `--keep`        L a literal, F the first value of a closure variable
 // awaits.js      `await`              as keeps who waits, aw takes the promise, ao the value with which the code goes on
 // runs.js        runs                 scriptBegins and scriptEnds, module.., handler.. (of an attribute), address.. (`javascript:`): a run begins, ends
-//                                     ai the name in `import()`, ap its promise; made: the text of `eval` and `new Function`; po: the last argument of `postMessage`
+//                                     ai the name in `import()`, ap its promise; made: the text of `eval` and `new Function`; un: the object of a `with`;
+//                                     po: the last argument of `postMessage`
 // helpers.js     `t` is no helper: marks keep an object there for the next mark.
 
 /**
@@ -26,8 +28,8 @@
  * that is not recorded, and a worker, have helpers that do this only.
  */
 const ANSWERS = [
-  'ro wo uo p q b B g m n i e d o L made po ai ap aw ao',
-  'k l j J h a c sk',
+  'ro wo uo p q b B g m n i e d o L made un po ai ap aw ao',
+  'k l j J h a c D sk',
   'w u U',
   'wh uh Uh wm um fo f fk z F',
   'y Y',

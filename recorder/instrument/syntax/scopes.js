@@ -116,7 +116,7 @@ class Scope {
   }
 
   /**
-   * Where a name is declared, seen from this scope: `local`, `module` or `global`.
+   * Where a name is declared, seen from this scope; `unknown` inside a `with` statement, whose object may have the name: such names get no mark.
    * @param {string} name
    * @returns {Where}
    */

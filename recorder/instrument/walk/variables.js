@@ -1,6 +1,6 @@
 'use strict';
 // The calls that report accesses to variables: which names are global variables of the page, those of a module, or what it imports; and the call that reports
-// its exports. Closures: closures.js. `undefined`, `arguments` and others are never marked.
+// its exports. Closures: closures.js. `undefined`, `arguments` and others are never marked, nor is a name inside a `with` statement (`unknown`).
 
 const { quote } = require('../marks/quote.js');
 const { WHOLE } = require('../syntax/imports.js');

@@ -3,6 +3,8 @@
 // much of what a handler does: it asks (`confirm`), stops the browser's own action, moves the cursor, writes to what only a library touches, or did its work at
 // an earlier event. So if the page registered a handler for what a user does at an element, its loss stays among the acts that are lost.
 
+const { HandlerRuns } = require('../../races/handler-runs.js');
+
 /** What a user does at an element. Other events come again with the next move of a pointer (`mouseover`, `scroll`), or follow from an act (`toggle`, `popstate`). */
 const DOINGS = new Set(['click', 'dblclick', 'auxclick', 'contextmenu', 'mousedown', 'mouseup', 'pointerdown', 'pointerup', 'touchstart', 'touchend', 'keydown',
   'keypress', 'keyup', 'beforeinput', 'input', 'change', 'submit', 'reset', 'focus', 'focusin', 'blur', 'focusout', 'cut', 'copy', 'paste', 'drop']);
@@ -19,15 +21,8 @@ class IdleHandlers {
    */
   constructor({ elements, handlers }, actions) {
     this.elements = elements;
-    this.handlers = handlers;
     this.actions = actions;
-    /** @type {Map<string, number>} by dispatch and handler, the first action that runs it */
-    this.runs = new Map();
-    for (const { number, words: [word, dispatch, , handler] } of actions.list) {
-      if (word === 'run' && !this.runs.has(`${dispatch} ${handler}`)) this.runs.set(`${dispatch} ${handler}`, number);
-    }
-    /** @type {Map<number, boolean>} by the action of a run, whether it did nothing that the trace has but reads */
-    this.unchanged = new Map();
+    this.runs = new HandlerRuns(actions, handlers);
   }
 
   /**
@@ -36,30 +31,7 @@ class IdleHandlers {
    * @param {string} handler
    */
   isUnchanged(number, handler) {
-    const run = this.runs.get(`${this.actions.list[number].words[1]} ${handler}`) ?? -1;
-    if (run <= number) return false;
-    let isOne = this.unchanged.get(run);
-    if (isOne === undefined) this.unchanged.set(run, isOne = this.hasOnlyReads(run));
-    return isOne;
-  }
-
-  /**
-   * Whether a run of a handler did nothing that the trace has but reads.
-   * @param {number} run its action
-   */
-  hasOnlyReads(run) {
-    const { list, lines } = this.actions;
-    const next = list[run + 1];
-    if (!next || !['run', 'close'].includes(next.words[0]) || next.words[1] !== list[run].words[1]) return false;
-    return lines.slice(list[run].line, next.line - 1).every((line) => line.startsWith('r ') || this.isEnd(line));
-  }
-
-  /**
-   * Whether a line stands for a call that clears a callback which has run.
-   * @param {string} line
-   */
-  isEnd(line) {
-    return line.startsWith('on ') && this.handlers[line.slice(3)]?.ends !== undefined;
+    return this.runs.isUnchanged(number, handler);
   }
 
   /**

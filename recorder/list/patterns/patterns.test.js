@@ -87,6 +87,14 @@ test('what looks like it: a counter, and keys of one set', async () => {
   assert.deepStrictEqual(await patternsAt(actAndTimeout([[`w ${names}`, WRITE]], [[`w ${names}`, WRITE]]), names, ACT), ['other']);
 });
 
+test('what looks like it: the change of a media query, which no user makes', async () => {
+  const changes = (/** @type {string} */ tag) => patternsAt(/** @type {Lines} */ (actAndTimeout([[`w ${X}`, WRITE]], [[`w ${X}`, WRITE]]).map(([text, ...more]) => [text.replace('click', 'change'), ...more])),
+    X, { dispatches: { 1: { type: 'change' } }, elements: { 1: { tag } } });
+  assert.deepStrictEqual(await changes('select'), ['act']);
+  assert.deepStrictEqual(await changes('HTMLDocument'), ['act']);
+  assert.ok(!(await changes('MediaQueryList')).includes('act'));
+});
+
 const C = 'var 3000000 cache';
 
 /** @param {Lines} first @param {Lines} second @returns {Lines} */

@@ -6,11 +6,11 @@ const THROWS = 'may throw';
 const REST = 'other';
 const HARMLESS = 'often harmless';
 /** The section of late handlers that ran in the recording and changed nothing in it, and without which a user loses little (idle.js). */
-const IDLE = 'late handlers that changed nothing recorded';
+const IDLE = 'late handlers that changed nothing';
 /** The section of problems that would be in another one, if a replay found no visible difference. */
 const SAME = 'no visible difference when replayed';
 /** The section of two acts of a user against each other: a page is not at fault for their order. */
-const APART = 'another input, not another order';
+const APART = 'only another input of the user changes the order';
 
 /** By key: the short name, and the section of the list. */
 const LOOKS = {
@@ -34,11 +34,14 @@ const LOOKS = {
 /**
  * A pattern as it was found in a race: `seen` says in words what was seen, and `here` which of the two orders the recording had; `rank` is its index in the
  * table. `detail` tells races of a pattern apart that do harm more often than others (list/rank.js). Of a late handler: `isUnchanged`, it ran and changed nothing;
- * `isIdle`, a user then loses little without it (idle.js); `comesAgain`, its event comes again by itself.
- * @typedef {{isUnchanged: boolean, isIdle: boolean, comesAgain: boolean}} Lateness
+ * `isOfLittle`, a user loses little without it if it changes nothing (idle.js); `isIdle`, both; `comesAgain`, its event comes again by itself.
+ * @typedef {{isUnchanged: boolean, isIdle: boolean, isOfLittle: boolean, comesAgain: boolean}} Lateness
  * @typedef {{look: LookKey, rank: number, name: string, part: string, seen: string, here: string, detail: Detail} & Lateness} Look
  */
-/** @typedef {''|'choosing'|'element'|'read'} Detail an event by which a user chooses something is lost; an element is looked up; a field is read, not written again */
+/**
+ * An event by which a user chooses something is lost; an element is looked up; a field is read, not written again; one act of a user is on both sides.
+ * @typedef {''|'choosing'|'element'|'read'|'one'} Detail
+ */
 
 /** What is said of a handler that ran and changed nothing. */
 const UNCHANGED = ', and changed nothing that is recorded';
@@ -76,24 +79,25 @@ const known = new Map();
  * @param {LookKey} look @param {string} seen @param {Detail} detail @param {Partial<Lateness>} lateness
  * @returns {Look}
  */
-function lookOf(look, seen = '', detail = '', { isUnchanged = false, isIdle = false, comesAgain = false } = {}) {
-  const key = `${look} ${detail} ${isUnchanged} ${isIdle} ${comesAgain} ${seen}`;
+function lookOf(look, seen = '', detail = '', { isUnchanged = false, isIdle = false, isOfLittle = isIdle, comesAgain = false } = {}) {
+  const key = `${look} ${detail} ${isUnchanged} ${isIdle} ${isOfLittle} ${comesAgain} ${seen}`;
   let one = known.get(key);
   const here = /(?:^|[;:] )here (.*)$/.exec(seen)?.[1] || '';
-  if (!one) known.set(key, one = { look, rank: RANKS.indexOf(look), ...LOOKS[look], seen, here, detail, isUnchanged, isIdle, comesAgain });
+  if (!one) known.set(key, one = { look, rank: RANKS.indexOf(look), ...LOOKS[look], seen, here, detail, isUnchanged, isIdle, isOfLittle, comesAgain });
   return one;
 }
 
 /**
  * By which pattern a line is shown if it covers several, the lowest first: typed text that is lost comes before events, and a late handler that changed nothing
- * or whose event comes again after all that may do harm, except if it changed nothing and a user chooses something by its event.
+ * or whose event comes again after all that may do harm, except if it changed nothing and a user chooses something by its event. Two acts of a user come before
+ * one, of which the browser decides the order.
  * @param {Pick<Look, 'look'|'rank'|'detail'|'isUnchanged'|'isIdle'|'comesAgain'>} look
  */
 function severityOf({ look, rank, detail, isUnchanged, isIdle, comesAgain }) {
   if (isIdle || comesAgain || (isUnchanged && detail !== 'choosing')) return RANKS.indexOf('other') + 1 / 2;
   if (look === 'field') return -2;
   if (look === 'late') return detail === 'choosing' ? -1 : RANKS.indexOf('act') + 1 / 2;
-  return rank;
+  return detail === 'one' ? rank + 1 / 2 : rank;
 }
 
 /**

@@ -64,7 +64,18 @@ class UserActs {
     if (words[0] !== 'fire' && words[0] !== 'wfire') return 0;
     const known = this.names.dispatches[words[1]]?.act;
     if (known) return Math.floor(known / LETTERS_OF_ACT);
-    return USER_EVENTS.has(words[3]) ? -Number(words[1]) : 0;
+    return USER_EVENTS.has(words[3]) && !this.isOfNoField(words) ? -Number(words[1]) : 0;
+  }
+
+  /**
+   * Whether a dispatch is the `change` of what is no field, such as a `MediaQueryList`. Elements have tags, others the names of their interfaces.
+   * @param {string[]} words
+   * @returns {boolean}
+   */
+  isOfNoField([word, , target, type]) {
+    if (word !== 'fire' || type !== 'change') return false;
+    const { tag = '', standsFor } = this.names.elements[target] || {};
+    return standsFor ? this.isOfNoField([word, '', String(standsFor), type]) : /^[A-Z]/.test(tag) && tag !== 'HTMLDocument';
   }
 
   /**

@@ -1,4 +1,5 @@
-// Writes of global variables that no mark sees, as `root.x = 1`: the window's own properties are compared at the end of each piece of code.
+// Writes of global variables that no mark sees: the window's own properties are compared at the end of each piece of code in which code without marks may have
+// run (page/recording/unmarked.js).
 
 import { each, findItem, hasItem, joined } from '../core/lists.js';
 import { replaceMethod } from '../core/replacing.js';
@@ -29,14 +30,28 @@ class Unseen {
   start() {
     const { Object: ObjectOfPage, Reflect } = this.page.window;
     const noteAll = (/** @type {object} */ target, /** @type {{[name: string]: GivenDescriptor}} */ descriptors) => {
-      if (this.#pageOf(target)) each(Object.keys(descriptors), (name) => this.#noteHidden(target, name, descriptors[name]));
+      each(Object.keys(descriptors), (name) => this.#noteHidden(target, name, descriptors[name]));
     };
     const noteOne = (/** @type {object} */ target, /** @type {unknown} */ name, /** @type {GivenDescriptor} */ descriptor) => {
-      if (this.#pageOf(target)) this.#noteHidden(target, name, descriptor);
+      this.#noteHidden(target, name, descriptor);
     };
     this.#replaceDefinition(ObjectOfPage, 'defineProperty', noteOne);
     this.#replaceDefinition(Reflect, 'defineProperty', noteOne);
     this.#replaceDefinition(ObjectOfPage, 'defineProperties', noteAll);
+    this.#replaceWriting(ObjectOfPage, 'assign');
+    this.#replaceWriting(Reflect, 'set');
+  }
+
+  /**
+   * @param {object} owner
+   * @param {string} name
+   */
+  #replaceWriting(owner, name) {
+    const unseen = this;
+    replaceMethod(owner, name, (native) => function write(target) {
+      if (unseen.#pageOf(target)) unseen.recording.unmarked.noteInPiece();
+      return apply(native, this, arguments);
+    });
   }
 
   /**
@@ -45,8 +60,11 @@ class Unseen {
    * @param {(target: object, given: any, descriptor: any) => void} note the arguments are whatever the page passes
    */
   #replaceDefinition(owner, name, note) {
+    const unseen = this;
     replaceMethod(owner, name, (native) => function define(target, given, descriptor) {
       const result = apply(native, this, [target, given, descriptor]);
+      if (!unseen.#pageOf(target)) return result;
+      unseen.recording.unmarked.noteInPiece();
       note(target, given, descriptor);
       return result;
     });

@@ -1,6 +1,6 @@
 // The browser's own functions, taken before any script of the page can change them. Getters and methods of the DOM, as `addEventListener`, `querySelector`.
 
-import { apply, getOwnPropertyDescriptor } from './taken.js';
+import { Object, Symbol, apply, getOwnPropertyDescriptor } from './taken.js';
 import { takeFirst } from './lists.js';
 
 /**
@@ -13,6 +13,7 @@ function takeNatives(window) {
     addEventListener: EventTarget.prototype.addEventListener,
     dispatchEvent: EventTarget.prototype.dispatchEvent,
     composedPath: Event.prototype.composedPath,
+    bubbles: getterOf(Event.prototype, 'bubbles'),
     readyState: getterOf(Document.prototype, 'readyState'),
     initEvent: Event.prototype.initEvent,
     getElementById: Document.prototype.getElementById,
@@ -26,7 +27,9 @@ function takeNatives(window) {
     hasAttribute: Element.prototype.hasAttribute,
     nameOfAttribute: getterOf(window.Attr.prototype, 'name'),
     getAttributeNames: Element.prototype.getAttributeNames,
+    getElementsByTagName: Element.prototype.getElementsByTagName,
     remove: Element.prototype.remove,
+    unscopables: Object.keys(/** @type {any} */ (Element.prototype)[Symbol.unscopables]),
     contains: Node.prototype.contains,
     matches: Element.prototype.matches,
     getAnimations: Document.prototype.getAnimations,

@@ -3,7 +3,7 @@
 
 import { Number, String, apply } from './taken.js';
 
-const { charCodeAt, endsWith, indexOf, slice, toLowerCase, trimEnd } = String.prototype;
+const { charCodeAt, endsWith, indexOf, slice, toLowerCase, toUpperCase, trimEnd } = String.prototype;
 const { exec } = /x/;
 const numberText = Number.prototype.toString;
 
@@ -55,6 +55,13 @@ const hasEnd = (text, end) => apply(endsWith, text, [end]);
 const lowerCase = (text) => apply(toLowerCase, text, []);
 
 /**
+ * Called by page/objects/style-names.js.
+ * @param {string} text
+ * @returns {string}
+ */
+const upperCase = (text) => apply(toUpperCase, text, []);
+
+/**
  * Called by page/log/stack.js.
  * @param {string} text
  * @returns {string}
@@ -101,4 +108,4 @@ function words(text) {
   }
 }
 
-export { PATTERNS, codeAt, digitsOf, fits, found, hasEnd, indexIn, lowerCase, sliceOf, withoutFragment, withoutLastBlanks, words };
+export { PATTERNS, codeAt, digitsOf, fits, found, hasEnd, indexIn, lowerCase, sliceOf, upperCase, withoutFragment, withoutLastBlanks, words };

@@ -240,6 +240,7 @@ class Loading {
     const { scripts, dispatches } = this.page;
     const isOfScript = event.isTrusted && target.localName === 'script' && fits(/^(load|error)$/, event.type) && !this.loaded.has(target);
     if (!isElement(target) || !isOfScript) return false;
+    if (event.type === 'load') this.recording.unmarked.noteLoaded(target);
     this.recording.finishAll();
     if (!scripts.isRunning(target) && !scripts.runEmpty(target)) return false;
     this.loaded.add(target);

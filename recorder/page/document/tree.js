@@ -275,6 +275,7 @@ class Tree {
     this.lastStep = recording.lastMoment();
     if (element) this.steps.set(element, this.lastStep);
     if ((!element || element.localName === 'script') && kind !== 'plain') this.staticScripts.add(number);
+    if (element && element.localName === 'script' && kind !== 'plain') this.page.insertions.noteUnmarked(element);
     this.texts.write();
     if (kind === 'defer') this.pendingDeferred.add(number);
     if (kind !== 'plain') this.staticLoads.add(number);

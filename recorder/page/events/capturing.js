@@ -115,7 +115,7 @@ class Capturing {
     recording.finishReturned();
     const path = this.#pathOf(target);
     each(path, (node) => elements.number(node));
-    dispatches.readSlots(path, event.type);
+    dispatches.readSlots(path, event.type, apply(this.natives.bubbles, event, []));
   }
 
   /**

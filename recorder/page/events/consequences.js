@@ -40,6 +40,14 @@ const LONGEST_PAUSE = 30;
 const hasConsequences = (type) => CONSEQUENCES.has(type);
 
 /**
+ * Whether the browser dispatches an event for what a user may do: not the `change` of a `MediaQueryList` and of others that are no fields. Called by
+ * dispatches.js.
+ * @param {Event|undefined} event
+ * @param {import('../types').Target|undefined} target
+ */
+const mayBeOfUser = (event, target) => !!event && event.isTrusted && (event.type !== 'change' || !target || !!target.nodeType);
+
+/**
  * Whether an event of a type that begins now can be a consequence of a dispatch whose handlers are done. Called by dispatches.js.
  * @param {import('../types').Dispatch} cause
  * @param {string} type
@@ -47,7 +55,7 @@ const hasConsequences = (type) => CONSEQUENCES.has(type);
  * @param {number} now
  */
 function isConsequence(cause, type, task, now) {
-  if (!cause.event || !cause.event.isTrusted || cause.active) return false;
+  if (!cause.event || !mayBeOfUser(cause.event, cause.target) || cause.active) return false;
   if (!hasItem(CONSEQUENCES.get(cause.event.type) || [], type)) return false;
   return cause.task === task || (LATER.has(type) && now - cause.lastTime < LONGEST_PAUSE);
 }
@@ -63,4 +71,4 @@ function isQueuedBy(causeType, type, pause) {
   return type !== 'keypress' && LATER.has(type) && pause < LONGEST_PAUSE && hasItem(CONSEQUENCES.get(causeType) || [], type);
 }
 
-export { hasConsequences, isConsequence, isQueuedBy };
+export { hasConsequences, isConsequence, isQueuedBy, mayBeOfUser };

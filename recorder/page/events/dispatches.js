@@ -1,12 +1,12 @@
 // Dispatches: how one begins, and which handlers of it run in which group.
 
-import { each, findItem, heightOfLast, joined, positionOf } from '../core/lists.js';
+import { each, findItem, hasItem, heightOfLast, joined, positionOf } from '../core/lists.js';
 import { settings } from '../core/settings.js';
 import { Map, Set, WeakMap, WeakSet, apply } from '../core/taken.js';
 import { spellName } from '../log/spelling.js';
 import { MOST_OPEN } from '../recording/open-dispatches.js';
 import { isOfTree } from './capturing.js';
-import { hasConsequences, isConsequence } from './consequences.js';
+import { hasConsequences, isConsequence, mayBeOfUser } from './consequences.js';
 
 /** @typedef {import('../types').Dispatch} Dispatch */
 /** @typedef {import('../types').Target} Target */
@@ -77,9 +77,9 @@ class Dispatches {
     }
     recording.push(dispatch);
     if (event.type === 'slotchange') page.observers.orderSlotChange(dispatch);
-    if (event.isTrusted && hasConsequences(event.type)) recording.watchTask();
+    if (mayBeOfUser(event, target) && hasConsequences(event.type)) recording.watchTask();
     page.tree.writeLate();
-    this.readSlots(path.length ? path : [target], event.type);
+    this.readSlots(path.length ? path : [target], event.type, apply(this.natives.bubbles, event, []));
     page.fields.noteKey(dispatch);
     page.fields.writeInput(event, target);
     page.fields.watchReset(dispatch);
@@ -140,7 +140,7 @@ class Dispatches {
    */
   #beginConsequence(dispatch) {
     const { recording } = this;
-    if (!dispatch.event.isTrusted || this.page.navigations.endsLater(dispatch.event)) return false;
+    if (!mayBeOfUser(dispatch.event, dispatch.target) || this.page.navigations.endsLater(dispatch.event)) return false;
     const { type } = dispatch.event;
     const now = this.natives.now();
     const height = heightOfLast(recording.dispatches, (one) => isConsequence(one, type, recording.task, now));
@@ -169,7 +169,7 @@ class Dispatches {
       page.connections.order(dispatch, request);
     } else if (!page.loading.begin(dispatch) && !page.messages.begin(dispatch) && !page.queued.begin(dispatch)) this.#beginAt(dispatch);
     dispatch.beginning = recording.running;
-    recording.log.name('dispatch', dispatch.number, { type: event.type, act: (event.isTrusted && recording.act) || undefined });
+    recording.log.name('dispatch', dispatch.number, { type: event.type, act: (mayBeOfUser(event, target) && recording.act) || undefined });
   }
 
   /**
@@ -202,17 +202,33 @@ class Dispatches {
   }
 
   /**
-   * The lookup of handlers at each node of the path; trace/spelling.js writes it as reads of all slots that are ever written there. Called by
-   * page/document/loading.js and capturing.js.
+   * The lookup of handlers at each node of the path; trace/spelling.js writes it as reads of all slots that are ever written there. An event that does not
+   * bubble reaches only handlers that capture, except at its targets. Called by page/document/loading.js and capturing.js.
    * @param {EventTarget[]} path
    * @param {string} type
+   * @param {boolean} bubbles
    */
-  readSlots(path, type) {
+  readSlots(path, type, bubbles = true) {
     const name = spellName(type);
+    const targets = bubbles ? path : this.#targetsOn(path);
     each(path, (node) => {
       const number = this.recording.elementNumbers.get(node);
-      if (number) this.recording.log.line(`look ${number} ${name}`);
+      if (number) this.recording.log.line(`look ${number} ${name}${hasItem(targets, node) ? '' : ' capture'}`);
     });
+  }
+
+  /**
+   * The first of a path, and the host of each shadow tree that the target is in: it is the target for what is outside of the tree.
+   * @param {EventTarget[]} path
+   */
+  #targetsOn(path) {
+    const targets = [path[0]];
+    if (!(/** @type {Target} */ (path[0])).nodeType) return targets;
+    each(path, (node) => {
+      const root = /** @type {ShadowRoot} */ (apply(this.natives.getRootNode, targets[targets.length - 1], []));
+      if (root.host === node) targets[targets.length] = node;
+    });
+    return targets;
   }
 
   // ---- handlers
@@ -222,9 +238,10 @@ class Dispatches {
    * @param {number} handler
    * @param {Event|undefined} event
    * @param {EventTarget} current
+   * @param {'handler'|'attribute'} kind
    * @returns {Dispatch|null} what `handlerEnds` takes
    */
-  handlerBegins(handler, event, current) {
+  handlerBegins(handler, event, current, kind = 'handler') {
     const { recording } = this;
     if (recording.isOver || !event || !event.type) return this.#unrecorded();
     const found = this.find(event);
@@ -242,7 +259,7 @@ class Dispatches {
       joined([dispatch.beginning, this.registrars.get(handler)], dispatch.toldEvents));
     recording.running.awaits = dispatch.awaits;
     recording.noteInside(dispatch);
-    recording.enter('handler');
+    recording.enter(kind);
     return dispatch;
   }
 
@@ -259,6 +276,7 @@ class Dispatches {
 
   /** A handler runs that is in no dispatch: `handlerEnds` leaves this call. */
   #unrecorded() {
+    this.recording.unmarked.noteInPiece();
     this.recording.enter('call');
     return null;
   }

@@ -144,11 +144,18 @@ class Handlers {
     const { next } = registration;
     registration.next = 0;
     registration.handler = this.register(target, type, typeof listener === 'function' ? listener : listener.handleEvent, true, next || undefined);
-    if (isCapture) this.page.dispatches.capturers.add(registration.handler);
+    if (isCapture) this.#noteCapturing(registration.handler);
     registration.isOnce = typeof options === 'object' && options !== null && !!options.once;
     registered.now.set(listener, registration);
     this.#watchSignal(target, type, options, registered, listener);
     return registration.wrapped;
+  }
+
+  /** @param {number} handler */
+  #noteCapturing(handler) {
+    const { capturers } = this.page.dispatches;
+    if (!capturers.has(handler)) this.recording.log.line(`captures ${handler}`);
+    capturers.add(handler);
   }
 
   /**

@@ -260,7 +260,8 @@ class OnHandlers {
       this.#attributesOf(owner).set(type, found);
       this.recording.log.line(`early on ${found.handler}`);
     }
-    return this.page.dispatches.handlerBegins(found.handler, current, (current && current.currentTarget) || element);
+    this.recording.unmarked.noteAttribute(found.text);
+    return this.page.dispatches.handlerBegins(found.handler, current, (current && current.currentTarget) || element, 'attribute');
   }
 }
 

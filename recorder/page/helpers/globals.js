@@ -1,7 +1,7 @@
 // Helpers for global variables, also as properties of the window, in handlers of elements, and of modules. What each letter means, and which argument
 // it returns: instrument/marks/helpers.js.
 
-import { each } from '../core/lists.js';
+import { each, hasItem } from '../core/lists.js';
 import { BigInt } from '../core/taken.js';
 import { spellName } from '../log/spelling.js';
 
@@ -50,8 +50,9 @@ function helpersOfNames(globals) {
  * @param {ReturnType<typeof helpersOfNames>} ofNames
  */
 function helpersOfHandlers(page, { r, w, u, U }) {
+  const { unscopables } = page.natives;
   /** @type {(element: any, name: string) => boolean} the receiver of a handler is whatever the page calls it with */
-  const isOfElement = (element, name) => !!element && element.nodeType === 1
+  const isOfElement = (element, name) => !!element && element.nodeType === 1 && !hasItem(unscopables, name)
     && (name in element || name in page.document || (element.form && name in element.form));
   return {
     /** @type {(element: unknown, name: string, site: number) => void} */

@@ -5,14 +5,17 @@ import { helpersOfGlobals } from './globals.js';
 import { helpersOfProperties } from './properties.js';
 import { helpersOfAttributes, helpersOfScripts } from './runs.js';
 import { helpersOfScopes } from './scopes.js';
-import { helpersOfCalls, helpersOfFirsts, helpersOfWholes } from './wholes.js';
+import { helpersOfCalls, helpersOfCopies, helpersOfFirsts, helpersOfWholes } from './wholes.js';
 
 /**
  * The helpers for objects and closures. `t` is where instrumented code keeps an object for the next helper.
  * @param {import('../types').Objects} objects
  */
 function helpersOfObjects(objects) {
-  return { t: null, ...helpersOfProperties(objects), ...helpersOfScopes(objects), ...helpersOfWholes(objects), ...helpersOfCalls(objects), ...helpersOfFirsts(objects) };
+  return {
+    t: null, ...helpersOfProperties(objects), ...helpersOfScopes(objects),
+    ...helpersOfWholes(objects), ...helpersOfCopies(objects), ...helpersOfCalls(objects), ...helpersOfFirsts(objects),
+  };
 }
 
 /**

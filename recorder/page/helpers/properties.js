@@ -1,6 +1,6 @@
 // Helpers for properties of objects by names and keys. They return the object, or the key, around which they are.
 
-import { getPrototypeOf } from '../core/taken.js';
+import { String, getPrototypeOf } from '../core/taken.js';
 import { bitOf } from '../objects/sites.js';
 
 /**
@@ -41,6 +41,24 @@ function makerByName(objects) {
   return (modes) => (object, name, site) => {
     if (site < lastObjects.length && lastObjects[site] === object) return object;
     if (sites.isDue(object, site)) access(object, name, modes, site);
+    return object;
+  };
+}
+
+/**
+ * The helper for a read of `object.name`. A text has what its prototype has.
+ * @param {import('../types').Objects} objects
+ * @returns {ByName}
+ */
+function readerByName(objects) {
+  const { sites } = objects;
+  const { objects: lastObjects } = sites;
+  const access = accessing(objects);
+  const { prototype } = String;
+  return (object, name, site) => {
+    const read = typeof object === 'string' ? prototype : object;
+    if (site < lastObjects.length && lastObjects[site] === read) return object;
+    if (sites.isDue(read, site)) access(read, name, 'r', site);
     return object;
   };
 }
@@ -111,7 +129,7 @@ function helpersOfProperties(objects) {
   const writeByName = byName('w');
   const writeByKey = byKey('w');
   return {
-    p: byName('r'), q: writeByName, b: byName('u'), B: byName('U'), g: byName('d'),
+    p: readerByName(objects), q: writeByName, b: byName('u'), B: byName('U'), g: byName('d'),
     k: readByKey, l: writeByKey, j: byKey('u'), J: byKey('U'), h: byKey('d'),
     /** @type {ByKey} */
     o: (object, key, site) => { readByKey(object, key, site); return object; },

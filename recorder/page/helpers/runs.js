@@ -27,7 +27,13 @@ function helpersOfScripts({ addresses, globals, insertedModules, messages, modul
     /** @type {(promise: Promise<unknown>) => Promise<unknown>} */
     ap: (promise) => modules.noteImport(promise),
     /** @type {(text: unknown) => unknown} */
-    made: (text) => { recording.log.miss(MADE_OF_TEXT); return text; },
+    made: (text) => {
+      recording.log.miss(MADE_OF_TEXT);
+      recording.unmarked.noteText(text);
+      return text;
+    },
+    /** @type {(object: unknown) => unknown} */
+    un: (object) => { recording.unmarked.noteAnywhere(); return object; },
     /** @type {(word: unknown) => unknown} */
     po: (word) => { recording.poster = messages; return word; },
     /** @type {(script: Element) => void} */

@@ -36,9 +36,27 @@ function helpersOfWholes(objects) {
     e: whole((object, site) => collections.spread(object, site)),
     i: whole((object, site, shape) => (shape === undefined ? collections.iterate(object, site) : patterns.takeEach(object, site, patterns.shapeOf(shape)))),
     d: whole((object, site, shape) => patterns.takeApart(object, site, patterns.shapeOf(shape))),
-    /** @type {(target: unknown, object: unknown, site: number) => unknown} */
-    c: (target, object, site) => {
+  };
+}
+
+/**
+ * `Object.assign` and `Object.defineProperties`: what is read of one object is written to another one, which is kept for the next mark.
+ * @param {import('../types').Objects} objects
+ */
+function helpersOfCopies(objects) {
+  const { sites, kinds, collections } = objects;
+  const look = looking(objects);
+  /** @typedef {{t: unknown}} Helpers */
+  return {
+    /** @type {(this: Helpers, target: unknown, object: unknown, site: number) => unknown} */
+    c(target, object, site) {
       if (sites.isDue(object, site) && !kinds.isLeftOut(object)) look(() => collections.assign(target, object, site));
+      this.t = target;
+      return object;
+    },
+    /** @type {(target: unknown, object: unknown, site: number) => unknown} */
+    D: (target, object, site) => {
+      if (sites.isDue(object, site) && !kinds.isLeftOut(object)) look(() => collections.define(target, object, site));
       return object;
     },
   };
@@ -88,4 +106,4 @@ function helpersOfFirsts({ recording, kinds, scopes, variables }) {
   };
 }
 
-export { helpersOfWholes, helpersOfCalls, helpersOfFirsts };
+export { helpersOfWholes, helpersOfCopies, helpersOfCalls, helpersOfFirsts };

@@ -1,8 +1,9 @@
 // Arrays, maps and sets: what their items, keys and methods touch; and whole objects, as a spread reads them. `push`, `splice`, `sort`, `length`, `Map.get`,
 // `Set.add`: which keys and items each of these methods reads or writes.
 
-import { Array, Map, Object, Set, apply, hasOwn } from '../core/taken.js';
-import { CLASSES, ITEMS, LEFT_OUT, LIST, MAP, NAMES, OTHER_ITEMS, PLAIN, READ, SET, SINGLE_ITEMS, STORAGE, TREE, WRITE } from './holders.js';
+import { Array, Map, Object, Set, apply, getPrototypeOf, hasOwn } from '../core/taken.js';
+import { isThing } from '../core/things.js';
+import { CLASSES, ITEMS, LEFT_OUT, LIST, MAP, NAMES, OTHER_ITEMS, PLAIN, READ, SET, SINGLE_ITEMS, STORAGE, STYLE, TREE, WRITE } from './holders.js';
 
 const mapHas = Map.prototype.has;
 const setHas = Set.prototype.has;
@@ -32,6 +33,7 @@ class Collections {
     const { kinds, objects } = this;
     const known = kinds.holders.get(object);
     if (known !== undefined && known.kind >= LEFT_OUT) return;
+    if (objects.prototypes.names.has(name) && !hasOwn(object, name)) objects.prototypes.read(getPrototypeOf(object), name, site);
     switch (known === undefined ? kinds.kindOf(object) : known.kind) {
       case LIST: this.#callList(kinds.hold(object, site), name, site); break;
       case MAP: case SET: this.#callMap(kinds.hold(object, site), name, site); break;
@@ -53,6 +55,7 @@ class Collections {
     const holder = this.kinds.holders.get(object);
     if (holder === undefined) return;
     if (holder.kind === TREE) this.objects.trees.accessAttribute(holder, key, method, site);
+    else if (holder.kind === STYLE) this.objects.trees.accessStyle(holder, key, method, site);
     else if ((holder.kind === MAP || holder.kind === SET) && !hasOwn(object, method)) this.#accessMapKey(holder, key, site, method);
   }
 
@@ -74,6 +77,7 @@ class Collections {
       this.variables.touchModes(holder, name < SINGLE_ITEMS ? name : OTHER_ITEMS, modes, site);
     } else if (name === 'length') this.variables.touchModes(holder, ITEMS, modes, site);
     else if (hasOwn(object, name) || modes !== 'r') this.variables.touchModes(holder, name, modes, site);
+    else if (typeof name === 'string') this.objects.prototypes.read(getPrototypeOf(object), name, site);
   }
 
   /**
@@ -202,7 +206,17 @@ class Collections {
    */
   assign(target, object, site) {
     this.spread(object, site);
-    if (typeof target === 'object' && target !== null) this.#eachName(object, (name) => this.objects.properties.access(target, name, 'w', site));
+    this.define(target, object, site);
+  }
+
+  /**
+   * Properties get the names of those that another object has. Called by page/helpers/wholes.js.
+   * @param {unknown} target
+   * @param {object} object
+   * @param {number} site
+   */
+  define(target, object, site) {
+    if (isThing(target)) this.#eachName(object, (name) => this.objects.properties.access(target, name, 'w', site));
   }
 
   /**

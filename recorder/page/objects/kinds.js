@@ -10,9 +10,12 @@ const NATIVE_TEXT = ' [native code] }';
 
 /** A prototype of the browser, and what kind of things it makes. */
 class Builtin extends Holder {
-  /** @param {number} makes */
-  constructor(makes) {
-    super(BUILTIN, 0, null);
+  /**
+   * @param {object} prototype
+   * @param {number} makes
+   */
+  constructor(prototype, makes) {
+    super(BUILTIN, -1, prototype);
     this.makes = makes;
   }
 }
@@ -35,6 +38,9 @@ class Kinds {
    */
   addWindow({ window }) {
     this.#addBuiltin(window.Object.prototype, PLAIN);
+    this.#addBuiltin(window.Function.prototype, PLAIN);
+    this.#addBuiltin(window.Array.prototype, PLAIN);
+    this.#addBuiltin(window.String.prototype, PLAIN);
     this.#addBuiltin(window.Node.prototype, TREE);
     this.#addBuiltin(window.Map.prototype, MAP);
     this.#addBuiltin(window.Set.prototype, SET);
@@ -47,7 +53,7 @@ class Kinds {
    * @param {number} makes
    */
   #addBuiltin(prototype, makes) {
-    const holder = new Builtin(makes);
+    const holder = new Builtin(prototype, makes);
     this.holders.set(prototype, holder);
     return holder;
   }
@@ -78,18 +84,36 @@ class Kinds {
   // ---- objects
 
   /**
-   * A prototype is the browser's if its constructor is. A page that changes methods of it is not seen. Called by properties.js.
+   * A prototype is the browser's if its constructor is (prototypes.js). Called by properties.js and prototypes.js.
    * @param {object} object
    * @returns {Holder}
    */
   holdPrototype(object) {
     const known = this.holders.get(object);
     if (known !== undefined) return known;
-    const maker = getOwnPropertyDescriptor(object, 'constructor');
-    const isOfBrowser = maker ? typeof maker.value === 'function' && this.#isNative(maker.value) : isIterator(object);
-    if (!isOfBrowser) return this.hold(object, -1);
+    return this.#isOfBrowser(object) ? this.#addPrototype(object) : this.hold(object, -1);
+  }
+
+  /** @param {object} object */
+  #addPrototype(object) {
     const up = getPrototypeOf(object);
     return this.#addBuiltin(object, up === null ? PLAIN : madeBy(this.holdPrototype(up)));
+  }
+
+  /** @param {object} object */
+  #isOfBrowser(object) {
+    const maker = getOwnPropertyDescriptor(object, 'constructor');
+    return maker ? typeof maker.value === 'function' && this.#isNative(maker.value) : isIterator(object);
+  }
+
+  /**
+   * The holder of a prototype of the browser that code touches itself; undefined if it is none. Called by properties.js.
+   * @param {object} object that has a constructor
+   */
+  meetPrototype(object) {
+    const maker = getOwnPropertyDescriptor(object, 'constructor')?.value;
+    if (typeof maker !== 'function' || !this.#isNative(maker)) return undefined;
+    return getOwnPropertyDescriptor(maker, 'prototype')?.value === object ? this.holdPrototype(object) : undefined;
   }
 
   /** @param {Function} maker */
@@ -112,10 +136,20 @@ class Kinds {
     for (let depth = 0; at !== null && depth < LONGEST_PROTOTYPE_CHAIN; depth++) {
       const holder = this.holdPrototype(at);
       if (holder.kind === LEFT_OUT) return PLAIN; // a proxy is asked nothing
-      if (holder.kind === BUILTIN) return this.#isMade(object, madeBy(holder)) ? madeBy(holder) : PLAIN;
+      if (holder.kind === BUILTIN) return this.#isMade(object, madeBy(holder)) ? madeBy(holder) : this.#kindOfUnmade(object);
       at = getPrototypeOf(at);
     }
     return PLAIN;
+  }
+
+  /**
+   * The kind of an object that only inherits what elements or storages have. A prototype of the browser that code meets before what it makes, such as
+   * `HTMLMediaElement.prototype`, is no plain object, else these would be.
+   * @param {object} object
+   * @returns {number}
+   */
+  #kindOfUnmade(object) {
+    return this.#isOfBrowser(object) ? this.#addPrototype(object).kind : PLAIN;
   }
 
   /**
@@ -136,7 +170,9 @@ class Kinds {
   hold(object, site) {
     let holder = this.holders.get(object);
     if (holder === undefined) {
-      holder = new Holder(this.kindOf(object), site, object);
+      const kind = this.kindOf(object);
+      if (kind === BUILTIN) return /** @type {Holder} */ (this.holders.get(object));
+      holder = new Holder(kind, site, object);
       holder.since = this.recording.actions;
       if (holder.kind === TREE) holder.maker = this.objects.madeElements.makerOf(object);
       this.holders.set(object, holder);

@@ -4,7 +4,7 @@ import { settings } from '../core/settings.js';
 import { sliceOf } from '../core/strings.js';
 import { String, WeakMap, getOwnPropertyDescriptor, getPrototypeOf } from '../core/taken.js';
 import { isThing } from '../core/things.js';
-import { IS_OF_TREE, LEFT_OUT, LIST, SCOPE, TREE, WINDOW } from './holders.js';
+import { BUILTIN, IS_OF_TREE, LEFT_OUT, LIST, SCOPE, TREE, WINDOW } from './holders.js';
 
 /** The object of an element has the same number as its field. */
 const { FIRST_FIELD, FIRST_OBJECT } = settings.numbers;
@@ -67,6 +67,7 @@ class ObjectNames {
   #facts({ kind, site, object }) {
     if (kind === SCOPE) return { site };
     if (kind === LIST) return { site, made: 'array' };
+    if (kind === BUILTIN) return { made: 'prototype', name: this.#nameOfPrototype(object) };
     if (typeof object === 'function') return { site, made: 'function', name: this.#ownText(object, 'name') };
     const name = this.#nameOfMaker(object);
     return { site, made: name && name !== 'Object' ? name : 'object' };
@@ -79,6 +80,15 @@ class ObjectNames {
   #nameOfMaker(object) {
     const prototype = getPrototypeOf(object);
     if (prototype === null || this.kinds.holders.get(prototype)?.kind === LEFT_OUT) return undefined;
+    const maker = getOwnPropertyDescriptor(prototype, 'constructor');
+    return maker && typeof maker.value === 'function' ? this.#ownText(maker.value, 'name') : undefined;
+  }
+
+  /**
+   * The name of the interface whose prototype an object of the browser is.
+   * @param {object} prototype
+   */
+  #nameOfPrototype(prototype) {
     const maker = getOwnPropertyDescriptor(prototype, 'constructor');
     return maker && typeof maker.value === 'function' ? this.#ownText(maker.value, 'name') : undefined;
   }

@@ -9,6 +9,7 @@ import { MadeElements } from './made-elements.js';
 import { ObjectNames } from './object-names.js';
 import { Patterns } from './patterns.js';
 import { Properties } from './properties.js';
+import { Prototypes } from './prototypes.js';
 import { Scopes } from './scopes.js';
 import { Sites } from './sites.js';
 import { Trees } from './trees.js';
@@ -24,6 +25,7 @@ class Objects {
     this.callers = new Callers(recording);
     this.variables = new Variables(this);
     this.madeElements = new MadeElements(this);
+    this.prototypes = new Prototypes(this);
     this.trees = new Trees(this);
     this.properties = new Properties(this);
     this.collections = new Collections(this);

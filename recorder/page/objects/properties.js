@@ -29,8 +29,8 @@ class Properties {
    */
   access(object, name, modes, site) {
     const { kinds, variables } = this;
-    const known = kinds.holders.get(object);
-    if (known !== undefined && (known.kind >= LEFT_OUT || (modes === 'w' && known.maker === this.recording.actions && !keepsAll))) return;
+    const known = kinds.holders.get(object) || (hasOwn(object, 'constructor') ? kinds.meetPrototype(object) : undefined);
+    if (known !== undefined && (known.kind === LEFT_OUT || (modes === 'w' && known.maker === this.recording.actions && !keepsAll))) return;
     if (typeof name === 'string' && name[0] === '#' && name.length > 1) {
       variables.touchModes(kinds.hold(object, site), name, modes, site);
       return;
@@ -41,6 +41,7 @@ class Properties {
       case TREE: this.objects.trees.access(object, name, modes, site); break;
       case STYLE: case CLASSES: case DATA: if (known !== undefined) this.objects.trees.accessPart(known, object, name, modes, site); break;
       case STORAGE: this.#accessStorage(kinds.hold(object, site), `${name}`, modes, site); break;
+      case BUILTIN: if (known !== undefined) this.objects.prototypes.access(known, object, name, modes, site); break;
       case WINDOW: if (known !== undefined) this.#accessWindow(known.object, name, modes, site); break;
       default: this.#accessPlain(object, typeof name === 'number' ? `${name}` : name, modes, site);
     }
@@ -74,6 +75,7 @@ class Properties {
   #accessWindow(page, name, modes, site) {
     const text = `${name}`;
     if (fits(/^\d+$/, text)) return; // a frame
+    page.globals.lastPieces[site] = 0; // a site where the window is an object as any other can have more names than one
     if (modes === 'r') page.globals.read(text, site);
     else if (modes === 'u') page.globals.update(text, site);
     else if (modes === 'U') page.globals.count(text, site);
@@ -130,7 +132,8 @@ class Properties {
       const holder = depth === 0 ? kinds.holders.get(at) : kinds.holdPrototype(at);
       if (holder !== undefined && holder.kind === LEFT_OUT) return;
       if (hasOwn(at, name)) {
-        if (holder === undefined || holder.kind !== BUILTIN) this.#readOwn(holder || kinds.hold(at, site), at, name, site);
+        if (holder !== undefined && holder.kind === BUILTIN) this.objects.prototypes.readPut(holder, name, site);
+        else this.#readOwn(holder || kinds.hold(at, site), at, name, site);
         return;
       }
       const gone = holder === undefined ? null : holder.find(name);
@@ -193,10 +196,14 @@ class Properties {
     let at = object;
     for (let depth = 0; at !== null && depth < LONGEST_PROTOTYPE_CHAIN; depth++) {
       const holder = depth === 0 ? this.kinds.hold(at, site) : this.kinds.holdPrototype(at);
-      if (holder.kind >= LEFT_OUT) return;
-      if (holder.site < 0) this.kinds.noteSite(holder, site);
-      this.variables.touchName(holder, name, READ, site);
-      at = getPrototypeOf(at);
+      if (holder.kind === LEFT_OUT) return;
+      const up = getPrototypeOf(at);
+      if (holder.kind === BUILTIN) this.objects.prototypes.readMissingAt(holder, up, name, site);
+      else {
+        if (holder.site < 0) this.kinds.noteSite(holder, site);
+        this.variables.touchName(holder, name, READ, site);
+      }
+      at = up;
     }
   }
 

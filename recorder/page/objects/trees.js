@@ -1,64 +1,18 @@
 // The page's tree as variables of its elements: one for each attribute (also of style and class), and one for what is in an element (`content`). The
-// observer of tree.js sees their changes; this module knows which properties and methods read them, as `innerHTML`.
+// observer of tree.js sees their changes; shown.js knows which properties and methods read them, as `innerHTML`.
 
 import { each, findItem } from '../core/lists.js';
 import { lowerCase, sliceOf } from '../core/strings.js';
-import { Object, Set, apply, getOwnPropertyDescriptor, hasOwn } from '../core/taken.js';
+import { Object, apply, getOwnPropertyDescriptor, getPrototypeOf, hasOwn } from '../core/taken.js';
 import { UNKNOWN } from '../log/values.js';
-import { CLASSES, DATA, Holder, IS_OF_TREE, READ, STYLE } from './holders.js';
+import { DeepReads } from './deep-reads.js';
+import { CLASSES, DATA, Holder, IS_OF_TREE, READ } from './holders.js';
 import { isAccessor } from './kinds.js';
 import { noteMember } from './members.js';
-
-const CONTENT = 'content';
-/**
- * The properties of an element that show an attribute or the content, with the names of the variables.
- * @type {{[property: string]: string|null|undefined}}
- */
-const SHOWN = {
-  textContent: CONTENT, innerHTML: CONTENT, innerText: CONTENT, childNodes: CONTENT, children: CONTENT, firstChild: CONTENT, lastChild: CONTENT,
-  firstElementChild: CONTENT, lastElementChild: CONTENT, childElementCount: CONTENT, options: CONTENT, rows: CONTENT,
-  className: 'class', hidden: 'hidden', disabled: 'disabled', href: 'href', src: 'src', title: 'title', alt: 'alt', htmlFor: 'for', tabIndex: 'tabindex',
-  readOnly: 'readonly', required: 'required', placeholder: 'placeholder', action: 'action', open: 'open', contentEditable: 'contenteditable', dir: 'dir',
-  lang: 'lang', __proto__: null,
-};
-/** @type {{[property: string]: number|null|undefined}} */
-const PARTS = { style: STYLE, classList: CLASSES, dataset: DATA, __proto__: null };
-const CHANGES_CONTENT = new Set(['appendChild', 'insertBefore', 'removeChild', 'replaceChild', 'append', 'prepend', 'replaceChildren']);
-const READS_CONTENT = new Set(['hasChildNodes', 'contains']);
-const READS_ATTRIBUTE = new Set(['getAttribute', 'hasAttribute']);
-/** Their variables are those of the properties of the same name (fields.js), and lookups (lookups.js). */
-const OTHERS = new Set(['id', 'value', 'checked']);
-/** @param {string} attribute */
-const isOther = (attribute) => OTHERS.has(attribute) || sliceOf(attribute, 0, 2) === 'on';
-/**
- * Names of a style that are no properties of it.
- * @type {{[property: string]: number|null|undefined}}
- */
-const NO_STYLES = { length: 1, parentRule: 1, item: 1, getPropertyValue: 1, getPropertyPriority: 1, setProperty: 1, removeProperty: 1, __proto__: null };
-/** What of the classes of an element reads them. */
-const READS_CLASSES = new Set(['value', 'length', 'contains', 'toggle']);
-/** What the variables of a style begin with. */
-const OF_STYLE = 'style.';
-
-/** @param {string} name in camel case */
-function withDashes(name) {
-  let text = '';
-  for (let k = 0; k < name.length; k++) text += name[k] >= 'A' && name[k] <= 'Z' ? `-${lowerCase(name[k])}` : name[k];
-  return text;
-}
-
-/** @param {string} name */
-const nameOfData = (name) => `data-${withDashes(name)}`;
-
-/**
- * The name that style sheets have for a property.
- * @param {string} property
- */
-function nameOfStyle(property) {
-  if (property === 'cssFloat') return 'float';
-  const text = withDashes(property);
-  return sliceOf(text, 0, 7) === 'webkit-' ? `-${text}` : text;
-}
+import {
+  CONTENT, DEEP, PARTS, REPLACES, CHANGES_CONTENT, READS_CONTENT, READS_ATTRIBUTE, READS_ATTRIBUTES, READS_CLASSES, READS_STYLE, isOther, shownBy,
+} from './shown.js';
+import { NO_STYLES, OF_STYLE, nameOfData, nameOfStyle, propertyOfStyle } from './style-names.js';
 
 /** One for each recording: `recording.objects.trees`. */
 class Trees {
@@ -69,6 +23,8 @@ class Trees {
     this.variables = objects.variables;
     this.callers = objects.callers;
     this.madeElements = objects.madeElements;
+    this.deepReads = new DeepReads(objects, (node, name, site) => { if (!isOther(name)) this.#touch(this.kinds.hold(node, -1), name, 'r', site); });
+    this.prototypes = objects.prototypes;
     /**
      * The first page; it numbers the nodes of all.
      * @type {import('../types').Page|null}
@@ -131,10 +87,25 @@ class Trees {
     if (this.notePart(node, name, site)) return;
     this.madeElements.noteStep(node, name);
     noteMember(this.recording, node, name, modes, site);
-    const shown = typeof name === 'string' && node.nodeType === 1 ? SHOWN[name] || null : null;
-    if (shown !== null) this.#touch(this.kinds.hold(node, site), shown, modes, site);
+    const shown = typeof name === 'string' && node.nodeType === 1 ? shownBy(node, name) : null;
+    if (shown !== null) this.#touchShown(node, /** @type {string} */ (name), shown, modes, site);
     else if (modes === 'r') this.#readOwn(node, name, site);
     else if (hasOwn(node, name) ? !isAccessor(node, name) : !(name in node)) this.variables.touchModes(this.kinds.hold(node, site), `${name}`, modes, site);
+  }
+
+  /**
+   * A property or a method that shows a variable of an element, and perhaps what is inside of it.
+   * @param {Element} node
+   * @param {string} property
+   * @param {string} shown
+   * @param {import('../types').Modes} modes
+   * @param {number} site
+   */
+  #touchShown(node, property, shown, modes, site) {
+    const holder = this.kinds.hold(node, site);
+    if (!isOther(shown) && !(modes !== 'r' && REPLACES.has(property))) this.#touch(holder, shown, modes, site);
+    const depth = DEEP[property];
+    if (depth && modes !== 'w') this.deepReads.read(node, depth, this.callers.placeOf(site));
   }
 
   /**
@@ -164,8 +135,10 @@ class Trees {
     }
     const known = this.kinds.holders.get(node);
     const gone = known === undefined ? null : known.find(`${name}`);
+    const isMissing = !(name in node);
     if (known !== undefined && gone !== null) this.variables.touch(known, gone, READ, site);
-    else if (!(name in node)) this.variables.touchName(this.kinds.hold(node, site), `${name}`, READ, site);
+    else if (isMissing) this.variables.touchName(this.kinds.hold(node, site), `${name}`, READ, site);
+    if (isMissing || this.prototypes.names.has(name)) this.prototypes.read(getPrototypeOf(node), name, site);
   }
 
   /**
@@ -220,18 +193,33 @@ class Trees {
   call(holder, name, site) {
     if (holder.object.nodeType !== 1) return;
     if (CHANGES_CONTENT.has(name)) this.#touch(holder, CONTENT, 'w', site);
-    else if (READS_CONTENT.has(name)) this.#touch(holder, CONTENT, 'r', site);
+    else if (READS_ATTRIBUTES.has(name)) this.deepReads.readAttributes(holder.object, site);
+    else if (READS_CONTENT.has(name)) this.#touchShown(holder.object, name, CONTENT, 'r', site);
   }
 
   /**
-   * Records what `getAttribute(key)` and the like touch. Called by collections.js.
+   * Records what `getAttribute(key)`, `cloneNode(key)` and the like touch. Called by collections.js.
    * @param {import('../types').Holder} holder
    * @param {unknown} key
    * @param {string} method
    * @param {number} site
    */
   accessAttribute(holder, key, method, site) {
-    if (typeof key === 'string' && !isOther(key)) this.#touch(holder, lowerCase(key), READS_ATTRIBUTE.has(method) ? 'r' : 'w', site);
+    if (holder.object.nodeType !== 1) return;
+    if (method === 'cloneNode') {
+      if (key) this.#touchShown(holder.object, method, CONTENT, 'r', site);
+    } else if (typeof key === 'string' && !isOther(key)) this.#touch(holder, lowerCase(key), READS_ATTRIBUTE.has(method) ? 'r' : 'w', site);
+  }
+
+  /**
+   * Records what `getPropertyValue(key)`, `setProperty(key, ..)` and the like touch of a style. Called by collections.js.
+   * @param {import('../types').Holder} holder
+   * @param {unknown} key
+   * @param {string} method
+   * @param {number} site
+   */
+  accessStyle({ object: node }, key, method, site) {
+    if (typeof key === 'string') this.#touch(this.kinds.hold(node, site), `${OF_STYLE}${propertyOfStyle(key)}`, READS_STYLE.has(method) ? 'r' : 'w', site);
   }
 
   /**

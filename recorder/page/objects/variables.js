@@ -4,7 +4,7 @@
 import { settings } from '../core/settings.js';
 import { Object, getOwnPropertyDescriptor } from '../core/taken.js';
 import { MISSING, UNKNOWN, keepable } from '../log/values.js';
-import { COUNTED, IS_COUNTED, IS_READ, KEPT, LIST, PLAIN, READ, SCOPE, TREE, WINDOW, WRITE, accessOf } from './holders.js';
+import { BUILTIN, COUNTED, IS_COUNTED, IS_READ, KEPT, LIST, PLAIN, READ, SCOPE, TREE, WINDOW, WRITE, accessOf } from './holders.js';
 import { Waiting } from './waiting.js';
 
 const { keepsAll } = settings;
@@ -184,9 +184,10 @@ class Variables {
   #valueOf({ kind, object }, { name }) {
     if (kind === WINDOW) return object.globals.valueOf(name);
     if (kind === TREE) return this.objects.trees.valueOf(object, name);
-    if (typeof name === 'string' ? kind !== PLAIN || name[0] === '(' || name[0] === '#' : kind !== LIST) return UNKNOWN;
+    if (typeof name === 'string' ? (kind !== PLAIN && kind !== BUILTIN) || name[0] === '(' || name[0] === '#' : kind !== LIST) return UNKNOWN;
     const found = getOwnPropertyDescriptor(object, name);
-    return found === undefined ? MISSING : found.value;
+    if (found === undefined) return MISSING;
+    return kind === BUILTIN && !('value' in found) ? UNKNOWN : found.value;
   }
 
   // ---- the end of an action

@@ -7,6 +7,7 @@ import { Objects } from '../objects/objects.js';
 import { OpenDispatches } from './open-dispatches.js';
 import { isBefore } from './order.js';
 import { Steering } from './steering.js';
+import { Unmarked } from './unmarked.js';
 
 /** The jobs of an action are over when this many turns of the job queue ran nothing that the recorder sees. */
 const TURNS_OF_A_CHECKPOINT = 24;
@@ -28,6 +29,7 @@ class Recording extends OpenDispatches {
     this.hasUnseenCode = false;
     /** Whether the page has a handler for rejections that nobody handles. */
     this.tellsRejections = false;
+    this.unmarked = new Unmarked();
     this.steering = new Steering(natives, settings.holds, settings.turns);
     this.steering.start(this.log);
     /** The number of the user act that the driver does now, or 0. */
@@ -109,6 +111,7 @@ class Recording extends OpenDispatches {
     if (!this.isRunning()) {
       this.log.miss('accesses while nothing recorded ran');
       this.hasUnseenCode = true;
+      this.unmarked.noteAnywhere();
       return false;
     }
     if (!this.contexts.length) this.turns = TURNS_OF_A_CHECKPOINT;
@@ -186,10 +189,8 @@ class Recording extends OpenDispatches {
   endPiece() {
     if (this.isOver) return;
     this.finishReturned();
-    each(this.pages, ({ tree, unseen }) => {
-      tree.collect('script');
-      unseen.compare();
-    });
+    each(this.pages, ({ tree }) => tree.collect('script'));
+    if (this.unmarked.takeDue(this.contexts)) each(this.pages, ({ unseen }) => unseen.compare());
     this.values.write();
   }
 
@@ -199,18 +200,26 @@ class Recording extends OpenDispatches {
     if (this.tellsRejections) each(this.pages, ({ queued }) => queued.noteJobs(this.running));
     if (this.isCheckpoint) return;
     this.isCheckpoint = true;
-    this.natives.queueMicrotask(() => this.turn());
+    this.#turnAll();
   }
 
-  /** One turn of the queue of microtasks. */
-  turn() {
-    if (!this.isCheckpoint) return;
+  /** The turns of the queue of microtasks: an `await` of nothing is a turn, and costs far less than `queueMicrotask`. */
+  async #turnAll() {
+    do await undefined; while (this.#turn());
+  }
+
+  /** One turn of the queue of microtasks. Returns whether another one is due. */
+  #turn() {
+    if (!this.isCheckpoint) return false;
     this.turns--;
     this.startPiece(); // accesses of a job keep the turns going
-    if (this.turns > 0) {
-      this.natives.queueMicrotask(() => this.turn());
-      return;
-    }
+    if (this.turns > 0) return true;
+    this.#endCheckpoint();
+    return false;
+  }
+
+  /** The microtasks of the running event are over. */
+  #endCheckpoint() {
     each(this.pages, ({ tree }) => tree.collect('script'));
     each(this.pages, ({ reach }) => reach.lookAfter());
     this.isCheckpoint = false;

@@ -84,6 +84,7 @@ class Addresses {
     const { recording } = this;
     if (recording.isOver) return;
     recording.startTask();
+    recording.unmarked.noteAnywhere();
     let interval = takeFirst(this.asked);
     if (!interval) {
       interval = recording.next('interval');

@@ -1,10 +1,13 @@
 // Scripts that are declared before a script inserts them, as by a handler that was set, or because they were data: they start at the insertion. So do the
 // loads of style sheets. These are injected scripts (`appendChild`).
 
+import { withoutMarks } from '../core/marks.js';
 import { fits } from '../core/strings.js';
 import { Set, WeakSet, apply } from '../core/taken.js';
 import { MADE_OF_TEXT } from '../log/log.js';
 
+/** `nodeType` of a text. */
+const TEXT = 3;
 /** Elements that load what they have only once they are in the document, and whose kind is in an attribute. */
 const LOADS_INSERTED = /^(link|object|embed|input)$/;
 
@@ -47,9 +50,35 @@ class Insertions {
     if (isEmpty || !kinds.scriptType(element)) return false;
     this.started.add(element);
     const runsLater = kinds.ofInsertedScript(element) === 'async';
-    if (runsLater) this.due.add(element);
-    else if (this.made.has(element) || calls.isWriting()) this.recording.log.miss(MADE_OF_TEXT);
+    if (runsLater) this.#noteRunningLater(element);
+    else if (this.made.has(element) || calls.isWriting()) {
+      this.recording.log.miss(MADE_OF_TEXT);
+      this.recording.unmarked.noteAnywhere();
+    }
     return runsLater;
+  }
+
+  /** @param {Element} element */
+  #noteRunningLater(element) {
+    this.due.add(element);
+    if (this.page.kinds.hasSource(element)) this.noteUnmarked(element);
+    else this.recording.unmarked.noteAnywhere();
+  }
+
+  /**
+   * A script of the parser, or one with a source, has come: some have no marks, as those with a `data:` address. Called by page/document/tree.js.
+   * @param {Element} element
+   */
+  noteUnmarked(element) {
+    const { page: { kinds, natives }, recording } = this;
+    if (kinds.hasSource(element)) {
+      recording.unmarked.noteAddress(kinds.attribute(element, 'src') || '');
+      return;
+    }
+    const text = /** @type {Text|null} */ (apply(natives.firstChild, element, []));
+    if (!text || text.nodeType !== TEXT || recording.ownTexts.has(text)) return;
+    const own = apply(natives.data.get, text, []);
+    if (own && withoutMarks(own) === own) recording.unmarked.noteAnywhere();
   }
 
   /**
@@ -87,6 +116,7 @@ class Insertions {
     if (element.localName !== 'script' || !apply(natives.isConnected, element, []) || !kinds.scriptType(element)) return;
     if (!this.started.has(element)) this.due.add(element);
     this.started.add(element);
+    this.noteUnmarked(element);
   }
 }
 

@@ -120,7 +120,10 @@ class Scripts {
   noteRun(element, number) {
     const { recording, page } = this;
     if (page.tree.staticScripts.has(number) || page.elements.awaited.has(number)) recording.running.awaits = page;
-    if (element) page.insertions.due.delete(element);
+    if (element) {
+      page.insertions.due.delete(element);
+      recording.unmarked.marked.add(element);
+    }
     this.last = { element, number, event: recording.running };
     page.joins.here(recording.formers.get(page.number) || [], 'the page before in the frame');
   }

@@ -86,6 +86,7 @@ class Timers {
     if (typeof callback === 'function') return callback;
     const code = String(callback);
     this.recording.log.miss(MADE_OF_TEXT);
+    this.recording.unmarked.noteText(code);
     const { window } = this.page;
     return () => this.#evaluate(window, code);
   }

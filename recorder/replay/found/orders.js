@@ -133,6 +133,19 @@ class Orders {
   }
 
   /**
+   * The numbers of all other races that came in the other order in a run in which a race was reversed, as far as they are watched. Called by along.js.
+   * @param {Run} run
+   * @param {Race} race
+   */
+  turnedWith(run, race) {
+    return this.report.races.flatMap((other, k) => {
+      const pair = this.pairs.get(pairOf(other));
+      const isTurned = !!pair && (isOnePair(other, race) || this.orderIn(run, pair) === 'turned');
+      return isTurned && other !== race ? [k + 1] : [];
+    });
+  }
+
+  /**
    * How the other races of a race's group came in a run in which it was reversed. Called by replay/replay.js.
    * @param {Run} run
    * @param {Race} race

@@ -1,9 +1,11 @@
 'use strict';
 /* eslint-env browser */
-// Whether two pictures of a page differ, and by how much. The browser itself reads them. Screenshots, pixel by pixel.
+// In how many points (pixels) two pictures (screenshots) of a page differ, and where. The browser itself reads them. How many must differ: `FEWEST_POINTS` in
+// differences.js.
 
 const { Tab } = require('../../browser/tab.js');
 
+/** Of the empty tab that compares: no picture is shown in it. */
 const SIZE = { width: 200, height: 200 };
 
 /** @typedef {{points: number, differing: number, boxes: number[][]}} Points how many points there are and differ, and where: `[x, y, width, height]`, in parts of the whole */
@@ -15,9 +17,9 @@ const SIZE = { width: 200, height: 200 };
  * @returns {Promise<Points>}
  */
 async function countPoints(first, second) {
-  const CELL = 20;
+  const CELL = 20; // points of a side of a square: the view frames squares that differ, not points
   const MOST_BOXES = 40;
-  const MOST_ALIKE = 16;
+  const MOST_ALIKE = 16; // of 255, for each color: points that differ by less look alike
   const [a, b] = [await readPicture(first), await readPicture(second)];
   const points = a.width * a.height;
   if (a.width !== b.width || a.height !== b.height) return { points, differing: points, boxes: [[0, 0, 1, 1]] };

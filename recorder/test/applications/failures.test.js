@@ -85,7 +85,7 @@ test('1: a stale reply has a line of its own', LIMIT, async () => {
     });`));
   serve('/answer.json', '"an answer"', 'application/json');
   const { stdout } = await record('/stale', '--do', 'type:#q:te');
-  assert.match(stdout, /may overwrite a newer one/);
+  assert.match(stdout, /may come after a newer one/);
 });
 
 test('2: with --attach, a page reaches another port of its machine', LIMIT, async (t) => {

@@ -16,7 +16,7 @@ const { medianOf } = require('./times.js');
 const REPORT = 'report 1\nactions 12\naccesses 30\npairs 3\nraces 2\ngroups 1\nend\n';
 const listed = (/** @type {string} */ name, /** @type {string} */ part, hasLine = true) => (
   { name, look: 'other', part, words: `words of ${name}`, summary: `summary of ${name}`, hasLine, races: [{ race: 1 }] });
-const PROBLEMS = [listed('aa', 'other'), listed('bb', 'other', false), listed('cc', 'another input, not another order')];
+const PROBLEMS = [listed('aa', 'other'), listed('bb', 'other', false), listed('cc', 'only another input of the user changes the order')];
 
 /** A folder as er_page leaves it. */
 function recorded() {
@@ -40,7 +40,7 @@ function lineOf() {
 
 test('the figures and the lines of a list; none of a recording without one', () => {
   const { runs: [{ figures }], problems } = lineOf();
-  assert.deepStrictEqual(figures, { actions: 12, accesses: 30, races: 2, groups: 1, lines: 2, sections: { other: 1, 'another input, not another order': 1 } });
+  assert.deepStrictEqual(figures, { actions: 12, accesses: 30, races: 2, groups: 1, lines: 2, sections: { other: 1, 'only another input of the user changes the order': 1 } });
   assert.deepStrictEqual(problems.map(({ name, place, isAgain }) => [name, place, isAgain]), [['aa', 1, true], ['cc', 2, true]]);
   assert.strictEqual(listOf(recorded(), ''), null);
 });

@@ -3,6 +3,7 @@
 
 const fs = require('node:fs');
 const path = require('node:path');
+const { APART, IDLE } = require('../../list/patterns/table.js');
 
 /** @typedef {import('./types').Line} Line */
 
@@ -10,12 +11,18 @@ const path = require('node:path');
 const STORED = path.join(__dirname, 'applications.jsonl');
 
 /**
+ * Sections of the list that had other names in stored lines.
+ * @type {[former: string, name: string][]}
+ */
+const FORMER = [['another input, not another order', APART], ['late handlers that changed nothing recorded', IDLE]];
+
+/**
  * @param {string} text
  * @returns {Line[]}
  */
 function parsed(text) {
   try {
-    return [JSON.parse(text)];
+    return [JSON.parse(FORMER.reduce((line, [former, name]) => line.replaceAll(`"${former}"`, `"${name}"`), text))];
   } catch {
     // the line was cut off
     return [];

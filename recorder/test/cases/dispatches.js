@@ -92,6 +92,21 @@ exports.cases = [
     throws: true,
   },
   {
+    page: 'no-bubbles.html',
+    words: ['--do', 'wait:400', '--do', 'click:#field'],
+    due: ['on captures', 'w focus of document', 'inline input#field focus', 'r focus of document', 'run captures', 'inline input#field click', 'inline input#field change',
+      'r change of document', 'run capturesChanges', 'inline input#field input', 'r input of document', 'r input of document', 'r input of window', 'run bubbles',
+      'inline b opened', 'r opened of b', 'r opened of div#host', 'r opened of div#host', 'run atHost', 'fire div#box scroll', 'r scroll of div#box', 'close'],
+    never: ['r focus of window', 'r error of document', 'r error of div#around', 'r change of window', 'r scroll of window', 'r scroll of document', 'r opened of window'],
+    races: ['focus of document', 'error of window', 'change of document'],
+  },
+  {
+    page: 'media-query.html',
+    words: CLICK,
+    due: ['inline button#go click', 'w isNarrow', 'close', 'back', 'fire MediaQueryList change', 'run changes', 'r isNarrow'],
+    races: ['isNarrow'],
+  },
+  {
     page: 'throws-in-handler.html',
     words: CLICK,
     due: [

@@ -19,6 +19,12 @@ exports.cases = [
     ],
   },
   {
+    page: 'media-prototype.html',
+    words: ['--do', 'wait:200', '--do', 'click:#film'],
+    due: ['timer', 'w class of video#film', 'w style.width of video#film', 'r class of video#film', 'r style.width of video#film'],
+    races: ['click of video#film', 'class of video#film', 'style.width of video#film'],
+  },
+  {
     page: 'image-later.html',
     due: [
       'timer', 'w size', 'new img#dot image', 'eload img#dot', 'run loaded', 'r size',

@@ -287,7 +287,7 @@ exports.cases = [
   {
     page: 'hidden-variables.html',
     due: [
-      'exec script', 'w one', 'w four', 'w five', 'w three', 'w two', 'exec script', 'w one', 'w four', 'r one', 'r two', 'r three', 'r five', 'w seen',
+      'exec script', 'w one', 'w two', 'w three', 'w four', 'w five', 'exec script', 'w one', 'w four', 'r one', 'r two', 'r three', 'r five', 'w seen',
     ],
   },
   {

@@ -49,7 +49,7 @@ function verdictOf({ replay }, name) {
 }
 
 /**
- * Two acts of a user against each other take another input, not another order: they fail no build, and are not drawn.
+ * Only another input of the user changes the order of two acts of a user: they fail no build, and are not drawn.
  * @param {{look: string}} problem
  */
 const counts = ({ look }) => look !== LOOKS.acts.name;

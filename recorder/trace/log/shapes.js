@@ -82,7 +82,8 @@ const NOTE_SHAPES = new Map([...NOTES_AS_RECORDS, ['set', [[number, number, numb
 const LINE_SHAPES = new Map([
   ...AS_RECORDS, ...NOTE_SHAPES,
   ['message', [[number, number, number]]],
-  ['look', [[number, name]]],
+  ['look', [[number, name], [number, name, oneOf('capture')]]],
+  ['captures', [[number]]],
   ['module', [[number]]],
   ['is', [[number, number]]],
   ['asked', [[number], [number, oneOf('known', 'unknown')]]],

@@ -11,7 +11,7 @@ import { isHarmless, rankOfVerdict } from './replays.js';
  */
 
 /** The sections of the list (list/patterns/table.js) that are closed at first. */
-const CLOSED = ['late handlers that changed nothing recorded', 'no visible difference when replayed'];
+const CLOSED = ['late handlers that changed nothing', 'no visible difference when replayed'];
 
 /**
  * Whether the filter shows a race: its text is compared with `searched` (model.js), the sentence and the location of a race. A reload loses it.

@@ -9,26 +9,24 @@ import { model, raceOf } from './model.js';
  * @typedef {import('./model.js').Race} Race
  * @typedef {import('../types').ShownReplay} ShownReplay
  * @typedef {import('../types').Difference} Difference
- * @typedef {'none'|'not'|'differs'|'same'} Verdict
+ * @typedef {'none'|'not'|'differs'|'others'|'same'} Verdict
  */
 
 /** What the replay of a race found, by the race's number. */
 const replayOf = new Map((model.replays || []).map((replay) => [replay.race, replay]));
 /** @type {{[verdict: string]: string}} */
-const VERDICTS = { differs: 'turned: differs', same: 'turned: no visible difference', not: 'not turned' };
-/** The order of lines: what differs, the worst effect first; then what could not be reversed, what was not tried, and the harmless. */
+const VERDICTS = { differs: 'turned: differs', others: 'turned: differs only by another race', same: 'turned: no visible difference', not: 'not turned' };
+/** The order of lines: what differs, the worst effect first; then what could not be reversed, what was not tried, what differs only by another race, and the harmless. */
 const EFFECTS = ['an uncaught error', 'a lost act', 'a lost input', 'a lost event', 'another content', 'another state'];
 /** @type {{[verdict: string]: number}} */
-const RANKS = { not: EFFECTS.length, none: EFFECTS.length + 1, same: EFFECTS.length + 2 };
+const RANKS = { not: EFFECTS.length, none: EFFECTS.length + 1, others: EFFECTS.length + 2, same: EFFECTS.length + 3 };
 
 /**
  * @param {ShownReplay|undefined} replay
  * @returns {Verdict}
  */
 function verdictOf(replay) {
-  if (!replay) return 'none';
-  if (replay.verdict !== 'turned') return 'not';
-  return replay.differences.length ? 'differs' : 'same';
+  return replay ? replay.kind : 'none';
 }
 
 /**
@@ -38,7 +36,7 @@ function verdictOf(replay) {
 function badgesOf(replay) {
   if (!replay) return [];
   const verdict = verdictOf(replay);
-  return [make('span', { class: `badge verdict ${verdict}`, title: replay.words }, VERDICTS[verdict]), ...replay.effect ? [make('span', { class: 'badge effect' }, replay.effect)] : []];
+  return [make('span', { class: `badge verdict ${verdict}`, title: replay.words }, VERDICTS[verdict]), ...verdict === 'differs' && replay.ownEffect ? [make('span', { class: 'badge effect' }, replay.ownEffect)] : []];
 }
 
 /**
@@ -68,7 +66,7 @@ function replayOfLine({ problems }) {
 /** @param {ShownReplay|undefined} replay */
 function rankOfReplay(replay) {
   const verdict = verdictOf(replay);
-  return verdict === 'differs' ? EFFECTS.indexOf(replay?.effect || '') : RANKS[verdict];
+  return verdict === 'differs' ? EFFECTS.indexOf(replay?.ownEffect || '') : RANKS[verdict];
 }
 
 /**
@@ -146,8 +144,10 @@ function replayBox(race) {
   }
   box.append(make('p', {}, `To turn them, ${replay.means}. The two came in the other order then${replay.isListed ? ', and the analyzer lists them as a race of that run too' : ''}.`));
   [replay.note, replay.comparedAt, replay.groupWords].forEach((text) => { if (text) box.append(make('p', {}, asSentence(text))); });
-  if (replay.differences.length) box.append(make('p', {}, `What differs at the end (${replay.effect}):`), differenceTable(replay.differences));
-  else box.append(make('p', {}, 'No visible difference was found at the end.'));
+  const own = replay.differences.filter(({ from }) => !from);
+  if (own.length) box.append(make('p', {}, `What differs at the end (${replay.ownEffect}):`), differenceTable(own));
+  else box.append(make('p', {}, `No visible difference ${replay.differences.length ? 'of its own ' : ''}was found at the end.`));
+  box.append(...foldedTable(replay.differences.filter(({ from }) => from), 'that other races make, which came in the other order too'));
   box.append(...foldedTable(replay.beside, 'that no user sees'), ...foldedTable(replay.unsteady, 'by itself, in runs in which nothing was turned too'),
     ...foldedTable(replay.byDelay, 'that the delay alone makes, with the two in their recorded order'));
   const boxes = replay.differences.find(({ kind }) => kind === 'picture')?.boxes || [];
