@@ -107,6 +107,7 @@ async function problemOf(trace, problem) {
 }
 
 /**
+ * The task `replay` of the interface for programs: one problem of a trace, of a page or of the suite that recorded it.
  * @param {ReplayTask} task
  * @returns {Promise<Reversal>}
  */
@@ -120,6 +121,7 @@ async function replay({ trace, problem, args, isOfSuite }) {
 }
 
 /**
+ * Replays a race of a page, as er_replay does, and returns what it has written of it.
  * @param {string} trace
  * @param {number} race
  * @param {CommandOptions} options

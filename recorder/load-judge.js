@@ -42,7 +42,11 @@ class LoadJudge {
     return own;
   }
 
-  /** @param {Promise<unknown>} last @param {string} file */
+  /**
+   * Analyzes a load and writes its view. Its facts are given their numbers only after the load before it, so that numbers do not depend on who is faster.
+   * @param {Promise<unknown>} last
+   * @param {string} file
+   */
   async judgeAfter(last, file) {
     const { known, isLinked, hearsSignals } = this;
     const { view, status } = await judgeAndView(file, this.command, { known, isLinked, hearsSignals });
@@ -57,7 +61,11 @@ class LoadJudge {
 /** @type {LoadJudge|null} */
 let judge = null;
 
-/** @param {Task} task @returns {Promise<Answer>} */
+/**
+ * What another process gets of a load (load-judges.js): its facts, or the status and the words of a fault.
+ * @param {Task} task
+ * @returns {Promise<Answer>}
+ */
 async function answerOf({ number, file }) {
   try {
     return { number, ...await (/** @type {LoadJudge} */ (judge)).judge(file) };

@@ -1,5 +1,6 @@
 'use strict';
-// Page loads analyzed by several processes: half of the processors. Each has few traces at once in memory. A pool of child processes.
+// Page loads analyzed by several processes: half of the processors. Each has few traces at once in memory. A pool of child processes. So many loads er_suite
+// analyzes at the same time.
 
 const { fork } = require('node:child_process');
 const os = require('node:os');
@@ -11,6 +12,7 @@ const { STATUS } = require('./common/status.js');
 /** @typedef {import('./load-judge.js').Start} Start */
 
 const JUDGE = path.join(__dirname, 'load-judge.js');
+/** Megabytes: a trace at its limits needs more than the default of a process. */
 const FLAGS = ['--max-old-space-size=4096'];
 /** So many traces are in the memory of each process: one is written while the analyzer reads the next one. */
 const AT_ONCE = 2;

@@ -30,6 +30,7 @@ const { besides } = require('./view.js');
  * @typedef {{address: string, file: string, args: string[], key: string}} Page
  */
 
+/** So many digits of its digest tell pages with one file name apart. */
 const DIGITS = 8;
 const ONE = path.join(__dirname, 'record-one.js');
 

@@ -1,6 +1,7 @@
 'use strict';
 // The line on standard error that shows how a recording goes, or the runs of a replay. On a terminal the line is overwritten.
 
+/** Milliseconds between two lines: a terminal overwrites its line, a log gets a new one. */
 const ON_TERMINAL = 250;
 const ELSEWHERE = 5000;
 

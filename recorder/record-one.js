@@ -13,6 +13,7 @@ const { besides } = require('./view.js');
  * @typedef {{format: 1, key: string, failed: number, incomplete: number}} Recorded
  */
 
+/** One page of a list, in a process of its own: what it gets is in ER_PAGE_ARGUMENTS, what many-pages.js reads of it is in a file beside the trace. */
 async function main() {
   /** @type {string[]} */
   const [key, ...args] = JSON.parse(process.env.ER_PAGE_ARGUMENTS || '[]');

@@ -109,7 +109,8 @@ async function writeRecorded(recorder, options, traceFile) {
 async function recordInto(command, given, traceFile, options, recorder = new Recorder(given, options)) {
   const call = { command, recorder };
   if (!options.isRaw) [traceFile, namesFile(traceFile)].forEach(mustTake);
-  const progress = new Progress(process.stderr, () => `${recorder.intake.actions} actions, ${recorder.openRequests()} open requests`);
+  const openInWords = (/** @type {number} */ count) => `${count} open request${count === 1 ? '' : 's'}`;
+  const progress = new Progress(process.stderr, () => `recording: ${recorder.intake.actions} actions so far, ${openInWords(recorder.openRequests())}`);
   let failed;
   try {
     failed = await runRecorder(call);
@@ -137,7 +138,10 @@ function recorderFor(given, options) {
   return options.attach ? new AttachedRecorder(given, options, options.attach) : new Recorder(given, options);
 }
 
-/** @param {string[]} args */
+/**
+ * er_record. With `--attach` the other program loads the page, so only the file is given.
+ * @param {string[]} args
+ */
 async function main(args) {
   const { options, positionals, isHelp } = parseCommand('er_record', args);
   if (isHelp) return printHelp('er_record');

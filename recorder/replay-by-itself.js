@@ -1,5 +1,6 @@
 'use strict';
-// Whether er_page replays races that nobody has requested, and for how long: only if no server gets a request again, and the page takes little time.
+// Whether er_page replays races that nobody has requested, and for how long: only if no server gets a request again, and the page takes little time. At most
+// five races, for at most a minute.
 
 const { shown } = require('./common/shown.js');
 const { programState } = require('./races/program.js');

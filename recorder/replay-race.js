@@ -147,7 +147,10 @@ async function replayTrace(trace, given, hasTime) {
   }
 }
 
-/** @param {string[]} args */
+/**
+ * er_replay. Without `--time`, the limit is that of the recorded run.
+ * @param {string[]} args
+ */
 async function main(args) {
   const { options, positionals, isHelp } = parseCommand('er_replay', args);
   if (isHelp) return printHelp('er_replay');

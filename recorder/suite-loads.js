@@ -23,6 +23,7 @@ const { namesFile } = require('./recording/files.js');
  *   held?: {isHeld: boolean, isReached: boolean, heldFor: number}}} LoadFacts
  */
 
+/** Traces that are queried at once: each has a process of the analyzer. */
 const AT_ONCE = 4;
 /** Nothing of a page's end is known: its test ends it at any time. */
 const NO_END = { isKnown: false, consoleErrors: [], dialogs: [], requests: [], lines: [], ids: [], fields: {}, storage: {}, variables: {}, title: '', hash: '', focus: '', picture: null };
@@ -46,7 +47,7 @@ class SuiteLoad {
   }
 
   /**
-   * What differs between the end of this load and that of another one.
+   * What differs between the end of this load and that of another one. Called by suite-replays.js.
    * @param {SuiteLoad} other
    */
   differencesTo(other) {

@@ -98,7 +98,10 @@ function canReplay() {
   return false;
 }
 
-/** @param {string[]} args */
+/**
+ * er_suite. A folder that is given twice, by whatever path, counts once.
+ * @param {string[]} args
+ */
 async function main(args) {
   const { options, positionals, isHelp } = parseCommand('er_suite', args);
   if (isHelp) return printHelp('er_suite');

@@ -154,7 +154,10 @@ async function printWhy(traceFile, from, to) {
   return status;
 }
 
-/** @param {string[]} args */
+/**
+ * er_view, also with `--why A B`.
+ * @param {string[]} args
+ */
 async function main(args) {
   const options = { isWhy: false };
   /** @type {import('./options/parse.js').OptionTable<typeof options>} */

@@ -7,7 +7,7 @@ const path = require('node:path');
 /** What a module defines: a function, a class, a constant, a method. */
 const DEFINITION = /^(?:async function|function|class|const| {2}(?:static |async |\*|#)*(?!if|for|while|switch|return|super)(?=[\w$#]+\([^)]*\) \{$))\s*([\w$#]+)(?:\(([^)]*)\))?/;
 /** What is code or comment of a module. The rest (data, pages) is not searched. */
-const IS_MODULE = /(?:\.js|\.d\.ts|^launch|^start|^install|^run-tests)$/;
+const IS_MODULE = /(?:\.js|\.d\.ts|\.css|^launch|^start|^install|^run-tests)$/;
 const LEFT_OUT = new Set(['pages', 'out', 'node_modules', 'corpus', 'applications', 'profile']);
 /** Who uses a module or a definition, at the end of its comment: shown, but not searched. */
 const USERS = /\b(?:Made|Called|Used|Extended) by (?:(?:, | and )?[\w./-]+\.js)+(?:, as its `\w+`)?\./g;
@@ -23,7 +23,7 @@ const FILE = /`([\w./-]+(?:\.(?:js|ts|css)|\/|\/launch))`/g;
  * @typedef {{question: string, answer: string, files: string[], parts: {file: string, text: string}[]}} Row
  */
 /** @typedef {{file: string, line: number, text: string}} Heading */
-/** @typedef {{modules: Module[], rows: Row[], headings: Heading[]}} Index */
+/** @typedef {{modules: Module[], rows: Row[], headings: Heading[], asked: import('./where-asked.js').Asked[]}} Index */
 
 /** @param {string} comment */
 const withoutUsers = (comment) => comment.replace(USERS, '');
@@ -34,7 +34,7 @@ const withoutUsers = (comment) => comment.replace(USERS, '');
  */
 function partsOf(text) {
   const lines = text.split('\n');
-  const sign = /^(?:\/\/|#) /;
+  const sign = /^(?:\/\/|#|\/\*) /;
   const head = lines.findIndex((line) => sign.test(line));
   const rest = lines.slice(head).findIndex((line) => !sign.test(line));
   const about = head < 0 ? '' : lines.slice(head, head + rest).map((line) => line.replace(sign, '')).join(' ');
@@ -138,7 +138,13 @@ function headings() {
   return files.flatMap(({ file, lines }) => lines.flatMap((text, k) => (/^#+ /.test(text) ? [{ file, line: k + 1, text: text.replace(/^#+ /, '') }] : [])));
 }
 
+/**
+ * The questions that were asked before.
+ * @returns {import('./where-asked.js').Asked[]}
+ */
+const questions = () => JSON.parse(fs.readFileSync(path.join(__dirname, 'where-questions.json'), 'utf8'));
+
 /** @returns {Index} */
-const readIndex = () => ({ modules: modulesIn(__dirname), rows: rowsIn(fs.readFileSync(path.join(__dirname, 'README.md'), 'utf8')), headings: headings() });
+const readIndex = () => ({ modules: modulesIn(__dirname), rows: rowsIn(fs.readFileSync(path.join(__dirname, 'README.md'), 'utf8')), headings: headings(), asked: questions() });
 
 module.exports = { readIndex, withPaths, withoutUsers, USERS };

@@ -3,6 +3,7 @@
 // map than in other comments, there more than in code, and a rare word more than a frequent one.
 
 const path = require('node:path');
+const { AskedBefore } = require('./where-asked.js');
 const { withoutUsers } = require('./where-index.js');
 const { stemsIn, wholeStem, synonymsOf, isStop, withoutSigns } = require('./where-words.js');
 
@@ -21,10 +22,20 @@ const START = 0.4;
 const PAIR = 0.3;
 /** The share of the words that a module has, to this power, is a factor of its score. */
 const ALL_WORDS = 0.5;
-/** So much of the score of its best definition a module has more. */
-const OF_DEFINITION = 0.27;
+/** So much of the score of its best definition a module has more: a function whose comment has most of the words is more than a heading. */
+const OF_DEFINITION = 0.35;
+/** And so much of what all words count, if a question that was asked before is like it: to this power, as one that is less like it mostly asks for something else. */
+const OF_ASKED = 1;
+const POWER_OF_ASKED = 5;
+/** So like is a question that is the same, in whatever order its words are: its file is the first. */
+const SAME = 0.96;
+const OF_SAME = 10;
+/** The words of the other part of a double question count so much. */
+const CONTEXT = 0.25;
 /** A file that a row of the map names after another one has this share of the row's question. */
 const LATER = 0.5;
+/** A question with one of these words asks for a module of the tests. */
+const ASKS_TESTS = /\b(?:tests?|fuzz|schemas?|fixtures?|test pages?|corpus|packaged)\b(?! suites?)/i;
 /** The definitions of so many modules are compared with the words. */
 const NEAR = 40;
 /** A line with more quotes is a table of names: each of them says little. */
@@ -120,10 +131,16 @@ function postingsOf(entries) {
   return postings;
 }
 
+/**
+ * How much a word says that so many of all modules have.
+ * @param {number} having @param {number} all
+ */
+const rarityOf = (having, all) => Math.log(1 + (all - having + 0.5) / (having + 0.5));
+
 /** What is searched, with the words of the map at the files that it names. */
 class Corpus {
   /** @param {Index} index */
-  constructor({ modules, rows }) {
+  constructor({ modules, rows, asked }) {
     this.entries = modules.filter(isSearched).map(entryOf);
     this.names = new Set(this.entries.map(({ module }) => wholeStem(baseOf(module))));
     const byName = new Map(this.entries.map((entry) => [entry.module.name, entry]));
@@ -137,6 +154,7 @@ class Corpus {
     }
     this.rows = rows.map((row) => ({ row, question: count(new Map(), row.question), answer: count(new Map(), row.answer) }));
     this.postings = postingsOf(this.entries);
+    this.asked = new AskedBefore(asked, (stem) => rarityOf(this.postings.get(stem)?.size || 0, this.entries.length));
     this.rowStems = new Set(this.rows.flatMap(({ question, answer }) => [...question.keys(), ...answer.keys()]));
   }
 
@@ -228,6 +246,12 @@ function scoreOf(weights, wanted) {
   return { share, score: score * share ** ALL_WORDS };
 }
 
+/**
+ * What a question that was asked before counts for its file.
+ * @param {import('./where-asked.js').Near|undefined} near
+ */
+const valueOf = (near) => (near ? OF_ASKED * near.like ** POWER_OF_ASKED + (near.like >= SAME ? OF_SAME * near.like : 0) : 0);
+
 /** @type {WeakMap<Index, Corpus>} */
 const corpora = new WeakMap();
 
@@ -235,27 +259,38 @@ const corpora = new WeakMap();
  * The modules and the rows that fit the words, the best first; modules of tests last. `missing` has the words that nothing has.
  * @param {string[]} given
  * @param {Index} index
- * @returns {{modules: FoundModule[], rows: FoundRow[], missing: string[], wanted: Wanted[]}}
+ * @param {{without?: string, context?: string[]}} [more] an asked question that does not count, and words that count less
+ * @returns {{modules: FoundModule[], rows: FoundRow[], missing: string[], wanted: Wanted[], same: string}} `same` is a question that was asked before, or ''
  */
-function rank(given, index) {
+function rank(given, index, more = {}) {
+  const { without = '', context = [] } = more;
   const corpus = corpora.get(index) || new Corpus(index);
   corpora.set(index, corpus);
   const { wanted, missing } = wordsOf(given, corpus);
+  const typed = wanted.length;
+  wanted.push(...wordsOf(context, corpus).wanted.filter(({ word }) => !wanted.some((one) => one.word === word)));
   const weights = wanted.map(({ forms }) => corpus.weightsOf(forms));
   wanted.forEach((one, k) => {
     const having = [...weights[k].values()].reduce((sum, own) => sum + Math.min(1, own / 2), 0);
-    one.rarity = Math.log(1 + (corpus.entries.length - having + 0.5) / (having + 0.5));
+    one.rarity = rarityOf(having, corpus.entries.length) * (k < typed ? 1 : CONTEXT);
   });
-  const scores = corpus.entries.map((entry, k) => ({ entry, ...scoreOf(weights.map((ofWord) => ofWord.get(k) || 0), wanted) })).filter(({ score }) => score);
+  const near = corpus.asked.near(wanted, given.join(' '), without);
+  const all = wanted.reduce((sum, { rarity }) => sum + rarity, 0);
+  const scores = corpus.entries.map((entry, k) => {
+    const { share, score } = scoreOf(weights.map((ofWord) => ofWord.get(k) || 0), wanted);
+    return { entry, share, score: score + all * valueOf(near.get(entry.module.name)) };
+  }).filter(({ score }) => score);
   const modules = scores.sort((one, other) => other.score - one.score).map(({ entry, share, score }, k) => {
     const ofParts = k < NEAR ? entry.parts.map((counts) => scoreOf(wanted.map(({ forms }) => countIn(counts, forms)), wanted).score) : [];
     return { module: entry.module, share, score: score + OF_DEFINITION * Math.max(0, ...ofParts) };
   });
-  const isTest = (/** @type {FoundModule} */ { module: { name } }) => Number(name.startsWith('test/'));
+  const asksTests = ASKS_TESTS.test(given.join(' '));
+  const isTest = (/** @type {FoundModule} */ { module: { name } }) => Number(!asksTests && name.startsWith('test/') && (near.get(name)?.like || 0) < SAME);
   modules.sort((one, other) => isTest(one) - isTest(other) || other.score - one.score);
   const rows = corpus.rows.map(({ row, question, answer }) => ({ row, ...scoreOf(wanted.map(({ forms }) => FIELDS.asked.weight * countIn(question, forms) + countIn(answer, forms)), wanted) }))
     .filter(({ score }) => score).sort((one, other) => other.score - one.score);
-  return { modules, rows, missing, wanted };
+  const [same] = [...near.values()].filter(({ like }) => like >= SAME);
+  return { modules, rows, missing, wanted, same: same?.question || '' };
 }
 
 module.exports = { rank, countIn };

@@ -4,7 +4,7 @@
 /** Words of a question that say nothing about a module. */
 const STOP = new Set(('a about again all also am an and another any are as at be been before being but by can cannot come comes contain contains could did do does during each else ever every for from'
   + ' get gets given goes had happen happens has have having here how i if in instead into is it its itself just like make makes many may me might more most much must my no nor not'
-  + ' of off on once one ones only onto or other others our out over own same shall should since so some still such than that the their them then there these they this those'
+  + ' of off on one ones only onto or other others our out over own same shall should since so some still such than that the their them then there these they this those'
   + ' er_page er_record says said to treat treated turned under until up upon us use used uses using very via was way we were what when where whether which while who whom whose why will with within without would'
   + ' you your').split(' '));
 
@@ -17,18 +17,21 @@ const SYNONYMS = {
   timer: 'setTimeout setInterval', 'animation frame': 'requestAnimationFrame raf', 'idle callback': 'requestIdleCallback', iframe: 'frame', frame: 'iframe', sent: 'send', share: 'merge join',
   handler: 'listener', listener: 'handler', registration: 'register subscribe', removeEventListener: 'unregister unsubscribe remove removal once signal',
   'log-in': 'login signin auth authentication credentials session', password: 'credentials auth', stack: 'callstack', xhr: 'ajax xmlhttprequest', parallel: 'concurrent concurrency simultaneous',
-  known: 'baseline suppress ignore', fold: 'dedupe duplicate merge', picture: 'screenshot', order: 'ordering happens-before', chaos: 'shuffle jitter',
-  instrumented: 'transpile rewrite transform injected', mark: 'instrumented instrumentation', types: 'typescript', keys: 'keyboard', click: 'mouse tap touch', rest: 'idle settle hang stuck',
+  known: 'baseline suppress ignore', fold: 'dedupe duplicate merge', picture: 'screenshot png', order: 'ordering happens-before', chaos: 'shuffle jitter',
+  instrumented: 'transpile rewrite transform injected', mark: 'instrumented instrumentation', types: 'typescript', keys: 'keyboard', click: 'mouse tap touch button', rest: 'idle settle hang stuck',
   response: 'intercept reply answer', request: 'fetch load', accesses: 'reads writes', driver: 'playwright puppeteer selenium webdriver cypress karma',
   driven: 'playwright puppeteer selenium webdriver', crash: 'oom died', paused: 'intercept intercepts', secrets: 'password mask redact token', navigate: 'navigation',
   'opened window': 'popup', stale: 'unused obsolete', directive: 'strict', encoding: 'charset utf-8 utf8 utf-16', parse: 'syntaxerror', fault: 'malformed corrupt broken invalid error failure garbage',
-  refused: 'reject rejected', held: 'delay hold delayed', limit: 'max maximum cap', most: 'max maximum', longest: 'max maximum', temporary: 'tmp', write: 'disk enospc save', cleanup: 'leftover orphan',
+  refused: 'reject rejected', held: 'delay hold delayed', limit: 'max maximum cap', most: 'max maximum many', longest: 'max maximum', temporary: 'tmp', write: 'disk enospc save', cleanup: 'leftover orphan',
   rank: 'severity sort', noise: 'noisy flaky nondeterministic', twice: 'repeated repeatable', policy: 'csp', element: 'node', tree: 'dom', folder: 'directory', text: 'string source content', place: 'position location',
-  signal: 'sigint sigterm kill', status: 'exitcode', chance: 'random', analyzer: 'backend', variable: 'property field', scope: 'closure', digest: 'hash', copy: 'rewrite',
-  'program': 'api', 'interface': 'api', process: 'spawn child', remove: 'delete unlink', delete: 'remove', address: 'url', argument: 'option flag', option: 'flag argument', check: 'validate',
-  fix: 'suggestion advice', user: 'person', error: 'exception', made: 'create created', makes: 'create created', insert: 'inject', shown: 'display render', draw: 'render', pattern: 'kind category',
+  signal: 'sigint sigterm kill', status: 'exitcode ci', chance: 'random flaky', analyzer: 'backend', variable: 'property field', scope: 'closure', digest: 'hash', copy: 'rewrite',
+  'program': 'api', 'interface': 'api', process: 'spawn child', remove: 'delete unlink gone', delete: 'remove', address: 'url', argument: 'option flag', option: 'flag argument', check: 'validate',
+  fix: 'suggestion advice',
+  terminal: 'tty console', style: 'css color colour', letter: 'character', output: 'stdout print', member: 'field', missing: 'none absent',
+  fail: 'ci', build: 'ci', largest: 'big large size', processes: 'parallel', processors: 'cpu cores', batch: 'chunk',
+  together: 'combine combination', user: 'person', error: 'exception', made: 'create created', makes: 'create created', insert: 'inject', shown: 'display render', draw: 'render', pattern: 'kind category',
   recipe: 'add extend implement', EventSource: 'sse', kept: 'remember cached', legal: 'illegal', sentence: 'headline wording title', attach: 'connect', complain: 'warn warning', unserved: 'missing', try: 'retry attempt', again: 'retry',
-  cut: 'truncate', release: 'resume continue', event: 'dispatch', dispatch: 'event fire', wait: 'await', take: 'accept', bytes: 'buffer', store: 'persist save', named: 'called', width: 'size',
+  cut: 'truncate shorten shortened abbreviate ellipsis', release: 'resume continue', event: 'dispatch', dispatch: 'event fire', wait: 'await', take: 'accept', bytes: 'buffer', store: 'persist save', named: 'called', width: 'size',
 };
 
 /** What a stem loses at its end, one after the other, if at least three letters stay. */
@@ -47,7 +50,10 @@ const regular = new Map(Object.entries(IRREGULAR).flatMap(([word, forms]) => for
 /** @type {Map<string, string>} */
 const stems = new Map();
 
-/** @param {string} word in lower case */
+/**
+ * A word without its endings, each of which is tried once, in their order.
+ * @param {string} word in lower case
+ */
 function stemOf(word) {
   const known = stems.get(word);
   if (known !== undefined) return known;

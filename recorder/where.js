@@ -4,7 +4,8 @@
 // (README.md). For developers. A whole question does too: words that say nothing are left out, names are split at capitals, and endings do not count.
 
 const { print, printError } = require('./common/output.js');
-const { readIndex } = require('./where-index.js');
+const { partsOf } = require('./where-asked.js');
+const { readIndex, withoutUsers } = require('./where-index.js');
 const { countIn, rank } = require('./where-rank.js');
 const { stemsIn } = require('./where-words.js');
 
@@ -16,6 +17,10 @@ const LEAST = 0.45;
 const MOST_ROWS = 2;
 const LEAST_MODULES = 3;
 const MOST_MODULES = 6;
+const MOST_OF_PART = 2;
+/** A definition with its comment is a better line than another one with as many of the words. */
+const OF_DEFINITION = 1.25;
+const SAYS_NOTHING = /\brequire\(|^import |@typedef|@type \{|@param/;
 const MOST_HEADINGS = 3;
 const MOST_LETTERS = 150;
 const MOST_OF_COMMENT = 200;
@@ -56,10 +61,10 @@ const sentencesOf = (about) => about.split(/(?<=\.\)?)\s+(?=[A-Z`])/);
 function linesOfModule({ module: { name, parts: { about, lines, definitions, head } } }, wanted) {
   const [first, ...others] = sentencesOf(about);
   const told = [
-    ...others.map((text) => ({ text, line: 0 })),
-    ...definitions.filter(({ comment }) => comment).map(({ name: own, comment, line }) => ({ text: `${own}: ${comment}`, line })),
-    ...lines.slice(head).map((text, k) => ({ text: text.trim(), line: head + k + 1 })),
-  ].map((one) => ({ ...one, share: shareIn(one.text, wanted) })).filter(({ share }) => share);
+    ...others.map((text) => ({ text, line: 0, weight: 1 })),
+    ...definitions.filter(({ comment }) => comment).map(({ name: own, comment, line }) => ({ text: `${own}: ${withoutUsers(comment)}`, line, weight: OF_DEFINITION })),
+    ...lines.slice(head).map((text, k) => ({ text: text.trim(), line: head + k + 1, weight: SAYS_NOTHING.test(text) ? 0 : 1 })),
+  ].map(({ text, line, weight }) => ({ text, line, share: weight * shareIn(text, wanted) })).filter(({ share }) => share);
   const [best] = told.sort((one, other) => other.share - one.share);
   return [`recorder/${name}: ${cut(first, MOST_OF_COMMENT)}`, ...(best ? [`  ${best.line ? `${best.line}: ` : ''}${cut(best.text, MOST_LETTERS)}`] : [])];
 }
@@ -84,19 +89,39 @@ function linesOfHeadings({ headings }, wanted) {
 }
 
 /**
- * What is printed for some words.
+ * What is printed for some words. Of a double question each part has further lines; the words of the other part count less in it.
  * @param {string[]} words
  * @param {Index} index
+ * @returns {string[]}
  */
 function linesFor(words, index) {
-  const { missing, rows, modules, wanted } = rank(words, index);
+  const found = rank(words, index);
+  const parts = found.same ? [] : partsOf(words.join(' '));
+  if (parts.length < 2) return linesOf(found, index, MOST_MODULES);
+  const printed = new Set(found.modules.slice(0, LEAST_MODULES).map(({ module }) => module));
+  return [...linesOf(found, index, LEAST_MODULES), ...parts.flatMap((part) => {
+    const { modules, wanted } = rank(part.split(' '), index, { context: words });
+    const others = modules.slice(0, MOST_OF_PART).filter(({ module }) => !printed.has(module));
+    others.forEach(({ module }) => printed.add(module));
+    return others.length ? [`And "${part.replace(/\?$/, '')}":`, ...others.flatMap((one) => linesOfModule(one, wanted))] : [];
+  })];
+}
+
+/**
+ * What is printed for one question: rows with most of the words, modules, other rows, headings of documents.
+ * @param {ReturnType<typeof rank>} found
+ * @param {Index} index
+ * @param {number} most
+ */
+function linesOf({ missing, rows, modules, wanted }, index, most) {
   const best = rows.filter(({ score, share }) => share >= LEAST_ROW && score >= LEAST * rows[0].score).slice(0, MOST_ROWS);
   const isFirst = (/** @type {FoundRow} */ { row, share }) => share >= FIRST_ROW && (!modules.length || isOfTests(modules[0]) || isRecipe(row) || row.files.includes(modules[0].module.name));
   const near = modules.filter(({ score }, k) => k < LEAST_MODULES || score >= LEAST * modules[0].score);
   const told = (/** @type {FoundRow[]} */ some) => some.map((row) => lineOfRow(row, modules));
   const lines = missing.length ? [`no file has: ${missing.join(', ')}`] : [];
-  lines.push(...told(best.filter(isFirst)), ...near.slice(0, MOST_MODULES).flatMap((found) => linesOfModule(found, wanted)));
-  if (near.length > MOST_MODULES) lines.push(`and ${near.length - MOST_MODULES} more modules: a further word leaves fewer`);
+  lines.push(...told(best.filter(isFirst)), ...near.slice(0, most).flatMap((found) => linesOfModule(found, wanted)));
+  const left = near.length - most;
+  if (left > 0) lines.push(`and ${left} more module${left > 1 ? 's' : ''}: a further word leaves fewer`);
   const others = best.filter((row) => !isFirst(row));
   if (others.length) lines.push('Other rows of the map:', ...told(others));
   if (!best.some(({ share }) => share >= FIRST_ROW)) lines.push(...linesOfHeadings(index, wanted));
@@ -113,7 +138,10 @@ modules that fit the words best. WORD.. is a question, a few words of it, or a n
   recorder/where.js early click
   recorder/where.js startTask`;
 
-/** @param {string[]} words */
+/**
+ * The command.
+ * @param {string[]} words
+ */
 function main(words) {
   if (words.length === 1 && /^(?:-h|--help)$/.test(words[0])) {
     print(HELP);

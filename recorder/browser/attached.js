@@ -12,6 +12,7 @@ const { WebSocketClient } = require('./web-socket.js');
 
 /** @typedef {import('./web-socket.js').Endpoint} Endpoint */
 
+/** Milliseconds, and characters: whoever listens at the port need not be a browser. */
 const LONGEST_ANSWER = 5000;
 const LARGEST_ANSWER = 1 << 20;
 /** Who debugs a browser has all that it has, so only one of this machine is asked. */

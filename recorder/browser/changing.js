@@ -6,6 +6,7 @@ const { withoutCredentials } = require('../common/address.js');
 const { ORIGIN } = require('./folder.js');
 const { LocalServer } = require('./local-server.js');
 
+/** Methods that change nothing at a server (safe ones of HTTP); a GET that a server takes for a change is not known here. */
 const READS = new Set(['GET', 'HEAD', 'OPTIONS', 'TRACE']);
 
 /**

@@ -15,6 +15,7 @@ const { Protocol, BrowserFault } = require('./protocol.js');
  * @typedef {{width: number, height: number, ignoresCertificateErrors?: boolean, userDataDir?: string|null, isHeaded?: boolean}} LaunchOptions
  */
 
+/** Which program (executable) of Chromium is started. `../install` says what to do if it is missing. */
 const PROGRAM = process.env.CHROMIUM || '/usr/bin/chromium';
 const FLAGS = [
   '--headless', '--disable-gpu', '--no-first-run', '--disable-background-networking', '--disable-component-update',
@@ -139,6 +140,7 @@ class Chromium extends Protocol {
     return path.join(this.folder, 'said');
   }
 
+  /** Why the browser ended, by what it wrote on standard error. */
   whyEnded() {
     const text = fs.existsSync(this.logFile()) ? fs.readFileSync(this.logFile(), 'utf8') : '';
     return text.includes('No usable sandbox') ? NO_SANDBOX : 'the browser ended';
@@ -164,7 +166,7 @@ class Chromium extends Protocol {
     });
   }
 
-  /** The first answer of the browser. */
+  /** The first answer of the browser. Called by driven/flow-recorder.js and recording/recorder.js. */
   hasStarted() {
     return this.send('Browser.getVersion', {}, undefined, LONGEST_START);
   }

@@ -20,6 +20,7 @@ const HOLD_NAME = '__er-hold';
  */
 const holdAt = (address, isInline = false) => ({ address: new URL(`/${HOLD_NAME}`, address).href, nonce: HOLD_NAME, isInline });
 
+/** The directives that decide which scripts run. */
 const OF_SCRIPTS = /^(script-src(-elem|-attr)?|default-src)$/;
 /** What a replay puts into a page is a script, or an image. */
 const OF_HOLDS = /^(script-src(-elem)?|img-src|default-src)$/;
@@ -71,6 +72,7 @@ function holdSources(name, sources, { address, nonce, isInline }) {
 }
 
 /**
+ * A directive that also allows what the recorder changed or inserted: the copies of inline scripts by their hashes, and what a replay holds the page with.
  * @param {string} directive
  * @param {Texts} texts
  * @param {Hold|null} hold

@@ -28,6 +28,8 @@ const REPLACEMENT = '\ufffd';
 const tables = new Map();
 
 /**
+ * The text of bytes by the name of an encoding, as a page or a header gives it; null if it has no such name, or if the bytes are none of it and `fatal` is set.
+ * Called by text.js.
  * @param {string} label
  * @param {Buffer} bytes
  * @param {boolean} fatal
@@ -63,7 +65,10 @@ function addSequences(table, encoding, sequences) {
  */
 const range = (first, last) => Array.from({ length: last - first + 1 }, (_, k) => first + k);
 
-/** @param {string} encoding */
+/**
+ * The characters that an encoding has by one byte each.
+ * @param {string} encoding
+ */
 function tableOfBytes(encoding) {
   /** @type {Table} */
   const table = new Map([['\n', [NEWLINE]]]);
@@ -71,7 +76,10 @@ function tableOfBytes(encoding) {
   return table;
 }
 
-/** @param {string} encoding */
+/**
+ * And those of two bytes; of three in EUC-JP.
+ * @param {string} encoding
+ */
 function tableOfTwoBytes(encoding) {
   const table = tableOfBytes(encoding);
   for (const lead of range(FIRST_LEAD, LAST_LEAD)) addSequences(table, encoding, range(FIRST_TRAIL, LAST_LEAD).map((trail) => [lead, trail]));
@@ -97,6 +105,7 @@ function tableOf(encoding) {
 const isOfTwoBytes = (encoding) => OF_TWO_BYTES.test(encoding);
 
 /**
+ * The bytes of a copy of a text, in the encoding of the original. A character that the encoding lacks becomes a question mark. Called by text.js.
  * @param {Table} table
  * @param {string} text
  */

@@ -1,6 +1,7 @@
 'use strict';
 // A folder as a web site: what a small file server would answer. The browser's requests are answered on their way, so nothing listens. The content type (MIME
-// type) by the ending of a file's name, `index.html` of a folder, status 404. What a folder lacks: responses/unserved.js.
+// type) by the ending of a file's name, `index.html` of a folder, status 404; `--fallback`; a file that is too large is refused. What a folder lacks:
+// responses/unserved.js.
 
 const fs = require('node:fs');
 const os = require('node:os');
@@ -23,6 +24,7 @@ const TYPES = new Map(Object.entries({
   '.woff': 'font/woff', '.woff2': 'font/woff2', '.ttf': 'font/ttf', '.otf': 'font/otf', '.txt': 'text/plain', '.xml': 'text/xml', '.wasm': 'application/wasm',
   '.pdf': 'application/pdf', '.mp4': 'video/mp4', '.webm': 'video/webm', '.mp3': 'audio/mpeg', '.ogg': 'audio/ogg',
 }));
+/** The origin of the pages of a folder: one that the browser takes for secure (service workers, clipboard), and that no server gets a request for. */
 const ORIGIN = 'http://localhost';
 /** In bytes. An answer goes to the browser as one text. */
 const LARGEST_FILE = 256 * 1024 * 1024;
@@ -59,7 +61,10 @@ function readRegular(file) {
   }
 }
 
-/** @param {string} file */
+/**
+ * Where a file is, links followed.
+ * @param {string} file
+ */
 function realPath(file) {
   try {
     return fs.realpathSync(file);
@@ -141,6 +146,7 @@ class Folder {
   }
 
   /**
+   * The file of a path of an address; it need not be there.
    * @param {string} pathname
    * @returns {string|null} null if it is no path of a file, as with an escaped slash
    */
@@ -178,7 +184,10 @@ const fileAddress = (address) => address.replace(OF_INDEX, '$1index.html');
 
 // ---- what a user's address means
 
-/** @param {string} folder */
+/**
+ * Whether a folder has files that no page should read: a home, its downloads, /tmp. Such a folder is served with a warning.
+ * @param {string} folder
+ */
 function isPersonal(folder) {
   const real = realPath(folder);
   const homes = [os.homedir(), process.env.HOME || ''].filter(Boolean);
@@ -195,6 +204,7 @@ const warningOf = (folder) => (isPersonal(folder)
   : null);
 
 /**
+ * The file that a user means by a page: a `file:` address, a path, or a path with a query or a fragment, if no file has the whole name.
  * @param {string} given
  * @returns {{file: string, search: string}}
  */

@@ -10,6 +10,7 @@ const { originOf } = require('../common/address.js');
  * @typedef {import('./folder.js').Folder} Folder
  */
 
+/** Names that mean this machine on every machine. Its addresses in networks are added. */
 const LOCAL_NAME = /^(?:(?:[\w-]+\.)*localhost|127(?:\.\d+){3})$/;
 /** In milliseconds. */
 const LONGEST_ANSWER = 2000;
@@ -17,7 +18,10 @@ const LONGEST_ANSWER = 2000;
 const LARGEST_ANSWER = 128 * 1024 * 1024;
 const MOST_REDIRECTS = 5;
 
-/** @param {string} address */
+/**
+ * A signal that ends a request after LONGEST_ANSWER; it keeps no process alive.
+ * @param {string} address
+ */
 function timeout(address) {
   const controller = new AbortController();
   setTimeout(() => controller.abort(new Error(`no answer of ${address}`)), LONGEST_ANSWER).unref();

@@ -42,7 +42,7 @@ class Protocol extends EventEmitter {
   }
 
   /**
-   * Takes a message as it came.
+   * Takes a message as it came. Called by attached.js and chromium.js.
    * @param {string} text a message as it came
    */
   receiveText(text) {

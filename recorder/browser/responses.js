@@ -22,6 +22,7 @@ const { SlowNetwork } = require('./responses/slow-network.js');
  * @typedef {import('./responses/own-origin.js').Challenge} Challenge
  */
 
+/** Each request is stopped twice: before it is sent, and when the head of its response is there. */
 const STAGES = [{ urlPattern: '*', requestStage: 'Request' }, { urlPattern: '*', requestStage: 'Response' }];
 
 /**

@@ -82,7 +82,7 @@ class Tab {
     await this.browser.send('Target.disposeBrowserContext', { browserContextId: this.contextId });
   }
 
-  /** Hears no more events: of a tab that is done with, in a browser that goes on. */
+  /** Hears no more events: of a tab that is done with, in a browser that goes on. Called by attached.js. */
   removeListeners() {
     this.listeners.forEach(([method, listener]) => this.browser.off(method, listener));
   }

@@ -19,6 +19,7 @@ const MARKS_OF_ORDER = [['utf-8', [0xef, 0xbb, 0xbf]], ['utf-16le', [0xff, 0xfe]
 const writeUtf8 = (text) => Buffer.from(text);
 
 /**
+ * The bytes of a text in UTF-8 or UTF-16, whose characters all have some.
  * @param {string} label
  * @param {string} text
  */

@@ -63,7 +63,10 @@ function pointOf(user, { where, given }) {
   return user.call(findTarget, where, inside);
 }
 
-/** @type {(times: number) => (user: User, step: StepAt) => Promise<Outcome>} */
+/**
+ * The steps `click` and `doubleClick`: so many clicks at the point where a user can hit the element.
+ * @type {(times: number) => (user: User, step: StepAt) => Promise<Outcome>}
+ */
 const clicks = (times) => async (user, step) => {
   const point = await pointOf(user, step);
   if (!point) return NO_TARGET;
@@ -71,7 +74,10 @@ const clicks = (times) => async (user, step) => {
   return DONE;
 };
 
-/** @type {(user: User, step: StepAt) => Promise<Outcome>} */
+/**
+ * The step `hover`: the pointer moves to the element, and stays there.
+ * @type {(user: User, step: StepAt) => Promise<Outcome>}
+ */
 async function hover(user, step) {
   const point = await pointOf(user, step);
   if (!point) return NO_TARGET;
@@ -79,7 +85,10 @@ async function hover(user, step) {
   return DONE;
 }
 
-/** @type {(user: User, step: StepAt) => Promise<Outcome>} */
+/**
+ * The step `type`: a click into the field, then its text, letter by letter (`User.type`). What is typed into a password field is a secret from now on.
+ * @type {(user: User, step: StepAt) => Promise<Outcome>}
+ */
 async function type(user, step) {
   const point = await pointOf(user, step);
   if (!point) return NO_TARGET;
@@ -146,7 +155,10 @@ async function upload(user, { where, text }) {
   }
 }
 
-/** @type {(user: User, step: StepAt) => Promise<Outcome>} */
+/**
+ * The step `press`: a key at an element, which gets the focus without a click.
+ * @type {(user: User, step: StepAt) => Promise<Outcome>}
+ */
 async function press(user, step) {
   const hasFocus = await user.call(focusAt, step.where);
   if (hasFocus === null) return NO_TARGET;
@@ -154,7 +166,10 @@ async function press(user, step) {
   return pressKey(user, step.text);
 }
 
-/** @type {(user: User, name: string) => Promise<Outcome>} */
+/**
+ * The step `key`: a chord (`Control+a`), a named key, or any other character, which is put in as text.
+ * @type {(user: User, name: string) => Promise<Outcome>}
+ */
 async function pressKey(user, name) {
   const chord = chordOf(name);
   if (chord) await user.guarded(user.press(chord));
@@ -163,7 +178,10 @@ async function pressKey(user, name) {
   return DONE;
 }
 
-/** @type {(user: User, step: Step) => Promise<Outcome>} */
+/**
+ * The step `scroll` of a flow: by the wheel of a mouse over the element, as a user scrolls, then the time of a smooth scroll.
+ * @type {(user: User, step: Step) => Promise<Outcome>}
+ */
 async function scroll(user, { where, given }) {
   const found = await user.call(scrollBy, where || null, given?.x || 0, given?.y || 0);
   if (!found) return NO_TARGET;
@@ -173,7 +191,10 @@ async function scroll(user, { where, given }) {
   return DONE;
 }
 
-/** @type {(user: User, step: StepAt) => Promise<Outcome>} */
+/**
+ * The step `waitForElement` of a flow: until so many elements are there, or its time is over.
+ * @type {(user: User, step: StepAt) => Promise<Outcome>}
+ */
 async function waitForElement(user, step) {
   const { operator, count, visible, attributes, properties } = step.given || {};
   const wanted = { operator, count, visible, attributes, properties };
@@ -181,13 +202,19 @@ async function waitForElement(user, step) {
   return notDone(`${operator && operator !== '>=' ? 'there are not so many elements' : await whyMissing(user, step)}`);
 }
 
-/** @type {(user: User, step: StepAt) => Promise<string>} */
+/**
+ * Why an element that a step waited for did not come, in words.
+ * @type {(user: User, step: StepAt) => Promise<string>}
+ */
 async function whyMissing(user, step) {
   const why = await user.call(whyNoTarget, step.where, seconds(step));
   return why === null || /no size/.test(why) ? `no element is as it says, after ${seconds(step)} s` : why;
 }
 
-/** @type {(user: User, step: Step) => Promise<Outcome>} */
+/**
+ * The step `waitForExpression` of a flow: code of the flow is evaluated in the page until it is true, or its time is over.
+ * @type {(user: User, step: Step) => Promise<Outcome>}
+ */
 async function waitForExpression(user, step) {
   const holds = () => user.tab.evaluate(`(async () => !!(await (${step.target}\n)))()`, true).then((value) => value === true, () => false); // it throws, or the page has gone
   return await comes(step, holds) ? DONE : notDone(`the expression was not true, after ${seconds(step)} s`);
@@ -196,7 +223,10 @@ async function waitForExpression(user, step) {
 /** @type {(isDown: boolean) => (user: User, step: Step) => Promise<Outcome>} */
 const half = (isDown) => async (user, { target }) => (await user.half(target, isDown) ? DONE : notDone('there is no such key'));
 
-/** @type {(user: User, step: Step) => Promise<Outcome>} */
+/**
+ * The step `setViewport` of a flow: a new size of the window while the page runs.
+ * @type {(user: User, step: Step) => Promise<Outcome>}
+ */
 async function setViewport({ tab }, { given }) {
   await tab.send('Emulation.setDeviceMetricsOverride', { width: given?.width, height: given?.height, deviceScaleFactor: 0, mobile: false });
   return DONE;
@@ -211,6 +241,7 @@ const OTHERS = {
 };
 
 /**
+ * Does one step, by its kind.
  * Called by user.js.
  * @param {User} user
  * @param {Step} step

@@ -1,6 +1,7 @@
 'use strict';
 // A user at a page, by the browser's own input, so that the page sees trusted events: a pointer, keys, typed text. What each step does with these:
-// user-steps.js. Mouse moves, clicks and keys are sent by the protocol (Input domain).
+// user-steps.js. Mouse moves, clicks and keys are sent by the protocol (Input domain); text is typed letter by letter. `--clicks`: which button is clicked
+// first, and next, is chosen by the seed (`clickAround`).
 
 const { sleep, within } = require('../common/time.js');
 const { bitsOf, chordOfCharacter, eventsOf, halfOf, isModifier } = require('./input/keyboard.js');

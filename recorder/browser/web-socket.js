@@ -8,6 +8,7 @@ const net = require('node:net');
 
 /** @typedef {{host: string, port: number}} Endpoint */
 
+/** From RFC 6455: by it the server proves that it talks WebSocket. Then the codes of frames. */
 const MAGIC = '258EAFA5-E914-47DA-95CA-C5AB0DC85B11';
 const CONTINUATION = 0;
 const TEXT = 1;
@@ -134,7 +135,7 @@ class WebSocketClient extends EventEmitter {
   }
 
   /**
-   * Closes the connection without an answer.
+   * Closes the connection without an answer. Called by attached.js.
    * @param {string} why
    */
   shut(why) {

@@ -1,5 +1,5 @@
 'use strict';
-// Web addresses: what of them may be shown, and which server they are of.
+// Web addresses: what of them may be shown (without user and password), and which server they are of.
 
 /** @typedef {{user: string, password: string}} Credentials */
 
@@ -31,7 +31,10 @@ const withoutTokens = (text) => (/[?#]/.test(text) ? text.replace(WITH_QUERY, (a
  */
 const tokensOf = (address) => [...address.matchAll(TOKEN)].map(([all, before]) => decoded(all.slice(before.length)));
 
-/** @param {string} text */
+/**
+ * A part of an address with its escapes read (`%20`).
+ * @param {string} text
+ */
 function decoded(text) {
   try {
     return decodeURIComponent(text);

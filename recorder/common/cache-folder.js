@@ -1,6 +1,7 @@
 'use strict';
-// A folder of texts by their keys, which outlive the process: `eventracer` in XDG_CACHE_HOME, or in ~/.cache. It is only a shortcut: what cannot be written
-// is not there, and what is damaged is as if it were not there. With ER_NO_CACHE=1 nothing is read and nothing written.
+// A folder of texts by their keys, which outlive the process: `eventracer` in XDG_CACHE_HOME, or in ~/.cache. It is only a shortcut: what cannot be written is
+// not there, and what is damaged is as if it were not there. With ER_NO_CACHE=1 nothing is read and nothing written. If it is too big, the oldest entries are
+// deleted.
 
 const fs = require('node:fs');
 const os = require('node:os');

@@ -43,6 +43,7 @@ function keepHeader([name, value]) {
 }
 
 /**
+ * A password is a secret as it is, and as the header `Authorization` has it.
  * Called by options/secrets-of.js.
  * @param {{user: string, password: string}} credentials
  */
@@ -67,7 +68,7 @@ function redacted(text) {
 }
 
 /**
- * For `JSON.stringify`: the texts of an object without secrets; its members keep their names. Called by replay-command.js, suite-replays.js and trace/names.js.
+ * For `JSON.stringify`: the texts of an object without secrets; its members keep their names. Called by replay-results.js, suite-replays.js and trace/names.js.
  * @param {string} key
  * @param {unknown} value
  */
@@ -88,7 +89,7 @@ function redactedTrace(text) {
 }
 
 /**
- * An object without secrets. Called by replay-command.js and suite-replays.js.
+ * An object without secrets. Called by replay-results.js and suite-replays.js.
  * @template T
  * @param {T} given
  * @returns {T}

@@ -20,7 +20,10 @@ function withoutCommands(text) {
   return PLAIN.test(given) ? given : given.replace(COMMANDS, (sign) => `\\u{${/** @type {number} */ (sign.codePointAt(0)).toString(16)}}`);
 }
 
-/** @param {unknown} text */
+/**
+ * A text as a reader gets it: cut after LONGEST characters, without control characters.
+ * @param {unknown} text
+ */
 function shown(text) {
   const given = String(text);
   return given.length > LONGEST ? `${withoutCommands(given.slice(0, LONGEST))}…` : withoutCommands(given);

@@ -41,6 +41,7 @@ function replaceFile(file, text) {
 }
 
 /**
+ * Writes a file whole or not at all. Throws a WriteFault, whose message a command prints.
  * @param {string} file
  * @param {string} text
  */

@@ -8,6 +8,7 @@ const PLACE = /^(.*):(\d+):(\d+)$/s;
 /** @typedef {[word: string, number: string, place: string, way: string]} AskedByLoad the places of the calls that led there are a line each */
 
 /**
+ * A place in the text, which all runs have, for one in the copy, which depends on the run.
  * @param {import('../texts/sources.js').Sources} sources
  * @param {string} place in the browser's copy
  */
@@ -20,6 +21,7 @@ function placeInText(sources, place) {
 }
 
 /**
+ * All that the code of a load has requested and that another run can hold back, with the way of calls there.
  * Called by load.js.
  * @param {Pick<import('./load.js').Load, 'intake'|'sources'>} load
  * @returns {AskedByLoad[]}

@@ -18,6 +18,7 @@ const { Pause } = require('./pause.js');
 const { Paused, isPage } = require('./paused.js');
 const { sleep } = require('../common/time.js');
 
+/** In milliseconds: how often it looks for loads that are due to be written; for a tab that must come; until when that may take, also at the start. */
 const POLL = 250;
 const POLL_MEETING = 2;
 const LONGEST_MEETING = 2000;
@@ -95,8 +96,8 @@ class BrowserRecorder {
     await Promise.all(pages.map((url, k) => (tabs[k] ? tabs[k].send('Page.navigate', { url }) : this.browser.send('Target.createTarget', { url })).catch(() => {}))); // the browser may have ended
   }
 
-  /** @param {ProtocolEvent} event */
-  meet({ sessionId, targetInfo, waitingForDebugger }) {
+  /** A target came: a page is a tab, which is set up before its first document. Prerendered pages and other subtypes go on unrecorded. */
+  meet(/** @type {ProtocolEvent} */ { sessionId, targetInfo, waitingForDebugger }) {
     if (this.tabs.has(targetInfo.targetId)) return; // a session that the tab asked for
     if (targetInfo.subtype) {
       this.browser.send('Runtime.runIfWaitingForDebugger', {}, sessionId).catch(() => {}); // it has gone
@@ -108,11 +109,8 @@ class BrowserRecorder {
     tab.setUp(waitingForDebugger);
   }
 
-  /**
-   * What a service worker answers comes to no session of a page.
-   * @param {{type: string, url: string}} targetInfo
-   */
-  meetWorker({ type, url }) {
+  /** What a service worker answers comes to no session of a page. */
+  meetWorker(/** @type {{type: string, url: string}} */ { type, url }) {
     if (type !== 'service_worker' || !/^https?:/.test(url)) return;
     this.complain(`not recorded: the accesses of scripts that a service worker answers (${withoutCredentials(url)}); a suite that blocks service workers has them`);
   }
@@ -272,6 +270,7 @@ class BrowserRecorder {
     evaluate().catch(() => { this.hasFacts = false; }); // the tab has gone: another one is asked
   }
 
+  /** Writes the loads that no longer change. Called every POLL. */
   writeDue() {
     const now = Date.now();
     for (const load of this.loads) if (!load.isOver && load.isDue(now)) this.write(load);

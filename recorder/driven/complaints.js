@@ -12,6 +12,7 @@ const SUITE = 5;
 const said = new Set();
 
 /**
+ * Writes a line to a descriptor, if that takes it.
  * @param {number} descriptor
  * @param {string} line
  */

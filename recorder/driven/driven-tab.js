@@ -81,7 +81,7 @@ class DrivenTab {
 
   /**
    * Sets up the tab, which waits at its start; if its driver waits too, that can resume it at any time. A session that came later is nearer to the page, so
-   * responses have a session of their own, after the driver's: it gets what the driver puts in the place of a response.
+   * responses have a session of their own, after the driver's: it gets what the driver puts in the place of a response. Called by browser-recorder.js.
    * @param {boolean|undefined} isWaiting
    */
   setUp(isWaiting) {
@@ -102,7 +102,7 @@ class DrivenTab {
 
   /**
    * Waits until a document that comes can be recorded, before its request goes on (`passRequest` in browser-recorder.js). If the tab takes too long, the
-   * document's copy brings the script, and `show` is called here, because no event reports the document.
+   * document's copy brings the script, and `show` is called here, because no event reports the document. Called by browser-recorder.js.
    */
   async waitForSetting() {
     await this.ready;
@@ -153,7 +153,10 @@ class DrivenTab {
     this.early = [];
   }
 
-  /** @param {ProtocolEvent} event */
+  /**
+   * The page sends a batch of lines: to the load of its document; they can come before the load is known.
+   * @param {ProtocolEvent} event
+   */
   takeLines({ executionContextId, payload }) {
     const load = this.loadOf({ executionContextId });
     if (load) load.take(payload);
@@ -181,13 +184,13 @@ class DrivenTab {
 
   // ---- responses
 
-  /** What the page holds back, or the page that comes next. */
+  /** What the page holds back, or the page that comes next. Called by browser-recorder.js. */
   steering() {
     return this.coming?.steering || this.current?.steering || null;
   }
 
   /**
-   * Whether a response is of the page that this tab has instrumented last.
+   * Whether a response is of the page that this tab has instrumented last. Called by browser-recorder.js.
    * @param {Pick<DocumentEvent, 'frameId'|'request'>} event
    */
   hasMarked({ frameId, request }) {
@@ -195,7 +198,7 @@ class DrivenTab {
   }
 
   /**
-   * The load to which a response belongs; null if its page is not recorded.
+   * The load to which a response belongs; null if its page is not recorded. Called by browser-recorder.js.
    * @param {DocumentEvent} event
    */
   loadOfResponse({ resourceType, frameId, request }) {

@@ -7,6 +7,7 @@ const { BrowserFault } = require('../browser/protocol.js');
 const { AttachedChromium } = require('../browser/attached.js');
 const { sleep } = require('../common/time.js');
 
+/** In milliseconds. The poll is short, as the driver may send its first page as soon as the port is there. */
 const POLL = 3;
 const LONGEST_START = 120000;
 
@@ -47,7 +48,10 @@ function portIn(profile) {
   }
 }
 
-/** @param {{host: string, port: number}} endpoint */
+/**
+ * Whether a browser answers at a port: asked again and again until it does, as it takes a while to start.
+ * @param {{host: string, port: number}} endpoint
+ */
 async function listens(endpoint) {
   try {
     const browser = await AttachedChromium.connect(endpoint);
@@ -59,6 +63,7 @@ async function listens(endpoint) {
 }
 
 /**
+ * Waits until the browser takes clients at its port, or ends.
  * Called by main.js.
  * @param {{port: number, profile: string, pid: number}} of the browser; port 0 is one that it picks itself
  * @returns {Promise<{host: string, port: number}>}

@@ -196,6 +196,7 @@ class FlowRecorder {
   }
 
   /**
+   * Why a step found nothing to act at, in words.
    * @param {User} user
    * @param {Step} step
    */

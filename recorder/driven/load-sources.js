@@ -55,7 +55,7 @@ class LoadSources extends Sources {
   }
 
   /**
-   * Takes as a page's copy the one that it has with these insertions, until it has its own.
+   * Takes as a page's copy the one that it has with these insertions, until it has its own. Called by load-steering.js.
    * @param {string} address
    * @param {import('../browser/responses/paused.js').Insertion[]} insertions
    */

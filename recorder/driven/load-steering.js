@@ -43,6 +43,7 @@ class LoadSteering extends RunSteering {
     this.begin(/** @type {import('../recording/recorder.js').Recorder} */ (/** @type {unknown} */ (this.asRecorder()))); // what steering reads of one
   }
 
+  /** What `RunSteering` reads of a recorder, which a driven browser has not. */
   asRecorder() {
     const { load: { intake, sources, address }, tab, ownNames } = this;
     return { intake, sources, given: address, tab, ownNames };
@@ -113,7 +114,7 @@ class LoadSteering extends RunSteering {
   // ---- its course
 
   /**
-   * Holds a response back, if it is the one.
+   * Holds a response back, if it is the one. Called by browser-recorder.js.
    * @param {import('../browser/responses/paused.js').Paused} event
    */
   async holdMet(event) {

@@ -11,6 +11,7 @@ const { Intake } = require('../trace/intake.js');
 const { askedOf } = require('./asked.js');
 const { LoadSources } = require('./load-sources.js');
 
+/** In milliseconds: of one response, and for the source maps, for which the driver waits when it closes the browser. */
 const LONGEST_RESPONSE = 60000;
 const LONGEST_MAPS = 2000;
 /** To write a load takes at most this part of the recorder's time, before it is over. */
@@ -86,7 +87,7 @@ class Load {
   }
 
   /**
-   * Takes an error that nothing in the page has caught.
+   * Takes an error that nothing in the page has caught. Called by driven-tab.js.
    * @param {import('./driven-tab.js').ExceptionDetails} details
    */
   takeError(details) {

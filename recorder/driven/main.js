@@ -25,7 +25,10 @@ function optionsOf(words) {
   return { ...options, time: /(^|\s)--time(\s|$)/.test(words) ? options.time : LONGEST_LOAD, isDriven: true };
 }
 
-/** @param {number} pid */
+/**
+ * What Linux says of a process, for the file that names who started the browser; null if it has ended.
+ * @param {number} pid
+ */
 function processOf(pid) {
   try {
     const words = fs.readFileSync(`/proc/${pid}/cmdline`, 'utf8').split('\0').filter(Boolean);

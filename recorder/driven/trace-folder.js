@@ -1,11 +1,12 @@
 'use strict';
-// The folder for the recordings of test suites: their names, and which recorders still write into it.
+// The folder for the recordings of test suites (ER_TRACES): the names of the trace files of er_browser, and which recorders still write into it.
 
 const fs = require('node:fs');
 const path = require('node:path');
 const { isAlive } = require('./endpoint.js');
 const { sleep } = require('../common/time.js');
 
+/** The file of a recorder that still writes, with its process number. In milliseconds, and characters of an address in the name of a file. */
 const LOCK = /^\.recording-(\d+)$/;
 const POLL = 50;
 const LONGEST_SLUG = 60;
@@ -34,18 +35,18 @@ class TraceFolder {
     this.lockFile = path.join(this.folder, `.recording-${process.pid}`);
   }
 
-  /** Says that a recorder writes into the folder. */
+  /** Says that a recorder writes into the folder. Called by main.js. */
   lock() {
     fs.writeFileSync(this.lockFile, '');
   }
 
-  /** Says that this recorder writes no more. */
+  /** Says that this recorder writes no more. Called by main.js. */
   unlock() {
     fs.rmSync(this.lockFile, { force: true });
   }
 
   /**
-   * The file for the trace of a load.
+   * The file for the trace of a load. Called by browser-recorder.js.
    * @param {number} number
    * @param {string} address
    */

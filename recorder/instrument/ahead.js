@@ -39,6 +39,7 @@ function addressOfScript(tag, page) {
 }
 
 /**
+ * What a folder or a server of files answers for an address, if that is a file.
  * @param {Place} place
  * @param {string} address
  * @returns {Answer|null} null if it is no whole answer
@@ -75,6 +76,7 @@ function isInstrumented(sources, { address, type, body, ofPage }) {
 }
 
 /**
+ * Marks the scripts of a page before it comes, while the browser starts. Returns how many.
  * Called by recording/recorder.js.
  * @param {Sources} sources
  * @param {Place} place

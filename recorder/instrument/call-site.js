@@ -56,7 +56,10 @@ function parseAt(text, start, read) {
 /** @param {Node} node */
 const mayBeNoName = (node) => node.type === 'Identifier' && MAY_BE_NO_NAME.has(node.name);
 
-/** @param {import('./syntax/types').MemberExpression} node */
+/**
+ * A member as the browser names it in a message: `a.b`, `a?.b`, `a[k]`; null if the browser names it otherwise.
+ * @param {import('./syntax/types').MemberExpression} node
+ */
 function wordsOfMember({ object, property, computed, optional }) {
   if (computed && mayBeNoName(object)) return null;
   const of = wordsOf(object);
@@ -67,7 +70,10 @@ function wordsOfMember({ object, property, computed, optional }) {
   return key === null ? null : `${of}${optional ? '?.' : ''}[${key}]`;
 }
 
-/** @param {import('./syntax/types').CallExpression} node */
+/**
+ * A call as the browser names it in a message: `a.b(...)`.
+ * @param {import('./syntax/types').CallExpression} node
+ */
 function wordsOfCall({ callee, optional }) {
   const of = mayBeNoName(callee) ? null : wordsOf(callee);
   return of === null ? null : `${of}${optional ? '?.' : ''}(...)`;
@@ -170,6 +176,7 @@ function readCallSite(message, text, offset) {
 }
 
 /**
+ * A message of an error with the call in the page's own words, without marks. A page can throw the same error very often, so results are kept.
  * Called by recording/error-text.js.
  * @param {string} message what the browser reported of the copy
  * @param {{text: string, offset: number, known?: Map<string, string|null>}} place where it says that the call is, in the page's own text: at `new`, at a

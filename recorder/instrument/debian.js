@@ -22,6 +22,7 @@ function addPackages() {
 }
 
 /**
+ * Loads parse5, with the packages that it needs, from where Debian has them.
  * Called by tags.js.
  * @returns {typeof import('/usr/share/nodejs/parse5')}
  */

@@ -64,7 +64,7 @@ class EditedText {
   }
 
   /**
-   * The original offset of a line and column that the browser reports of the changed text.
+   * The original offset of a line and column that the browser reports of the changed text. Called by texts/sources.js.
    * @param {number} line
    * @param {number} column
    */
@@ -92,7 +92,7 @@ class EditedText {
   }
 
   /**
-   * Where the browser reports an original place in the changed text: its line, and the first and the last column.
+   * Where the browser reports an original place in the changed text: its line, and the first and the last column. Called by driven/asked.js.
    * @param {number} line
    * @param {number} column
    */
@@ -104,13 +104,14 @@ class EditedText {
     return { line: from.line, from: from.column, to: to.line === from.line ? to.column : Infinity };
   }
 
+  /** The lines of the changed text, which are read when a place is first looked for. */
   linesOfChanged() {
     this.changedLines = this.changedLines || new Lines(this.text, this.kind === 'script' ? LINE_END_OF_SCRIPT : LINE_END);
     return this.changedLines;
   }
 
   /**
-   * The original line and column of a line and column that the browser reports of the changed text.
+   * The original line and column of a line and column that the browser reports of the changed text. Called by driven/asked.js and texts/sources.js.
    * @param {number} line
    * @param {number} column
    */

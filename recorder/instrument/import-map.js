@@ -8,7 +8,10 @@ const acorn = require('/usr/share/nodejs/acorn');
  * @typedef {{properties: {key: {value: string}, value: acorn.Node}[]}} ObjectNode
  */
 
-/** @param {string} text */
+/**
+ * Whether a text is a JSON object.
+ * @param {string} text
+ */
 function isObject(text) {
   try {
     const value = JSON.parse(text);

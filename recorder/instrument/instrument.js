@@ -1,6 +1,6 @@
 'use strict';
-// Marks a script, a module or the text of a handler attribute: its reads and writes, and the start (after directives, as 'use strict') and end of its run.
-// What is inserted calls the helpers of page/helpers/ and is between delimiters, so that the page sees its own text in `toString`.
+// Marks a script, a module or the text of a handler attribute: its reads and writes, and the start (after directives, as 'use strict', and a hashbang `#!`) and
+// end of its run. What is inserted calls the helpers of page/helpers/ and is between delimiters, so that the page sees its own text in `toString`.
 
 const { quote } = require('./marks/quote.js');
 const { IDLE } = require('./marks/helpers.js');
@@ -118,7 +118,10 @@ function beginCall(options, program, scope, { variables }, taken) {
   return `;${IDLE}__er.scriptBegins(globalThis.document&&document.currentScript,${site},${JSON.stringify(functions)}${own});`;
 }
 
-/** @param {Options} options */
+/**
+ * The call at the end of a run: also if it throws, for a handler and an address.
+ * @param {Options} options
+ */
 function endCall({ kind }) {
   if (kind === 'handler') return '}finally{__er.handlerEnds()}';
   if (kind === 'address') return '}finally{__er.addressEnds()}';

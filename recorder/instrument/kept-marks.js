@@ -69,6 +69,7 @@ function versionOfMarks() {
 }
 
 /**
+ * The key of the marks of a text: all that they depend on, also the texts of the modules of instrument/.
  * @param {string} code
  * @param {Options} options
  */
@@ -207,6 +208,7 @@ class KeptMarks {
   }
 
   /**
+   * Keeps marks in memory; if they have too many characters, those that were not used for the longest time go. A file of the cache may still have them.
    * @param {string} key
    * @param {Kept} kept
    */
@@ -232,6 +234,7 @@ class KeptMarks {
     this.timer = setTimeout(() => this.writeAll(), QUIET).unref();
   }
 
+  /** Writes what was marked since the last time to the cache. Called when nothing was marked for a while, and when the process ends. */
   writeAll() {
     if (!this.unwritten.size) return;
     for (const [key, kept] of this.unwritten) this.folder.write(key, JSON.stringify(kept));

@@ -49,6 +49,7 @@ const { readTags, attributeOf, SVG, MATH } = require('./tags.js');
 const ADDRESSES = {
   'href': ['a', 'area'], 'xlink:href': ['a'], 'src': ['iframe', 'frame'], 'action': ['form'], 'formaction': ['button', 'input'],
 };
+/** Characters of an address that tell elements apart; page/document/elements.js takes as many. */
 const LONGEST_SOURCE = 200;
 
 /** @param {Tag} tag */
@@ -111,13 +112,17 @@ class PageRewriter {
     return this.edits;
   }
 
-  /** @param {Tag} tag */
+  /**
+   * The copy of a start tag. Its id and source tell its element apart from others in the list.
+   * @param {Tag} tag
+   */
   rewriteTag(tag) {
     for (const attribute of tag.attributes) this.rewriteAttribute(tag, attribute);
     if (!tag.inTemplate) this.source.noteTag(tag.name, { id: attributeOf(tag, 'id')?.value, source: attributeOf(tag, 'src')?.value.slice(0, LONGEST_SOURCE) }, tag.start);
   }
 
   /**
+   * What an attribute becomes in the copy: no `integrity`, as the script has another text; marks in handlers, `javascript:` addresses and `srcdoc`.
    * @param {Tag} tag
    * @param {Attribute} attribute
    */
@@ -193,6 +198,7 @@ class PageRewriter {
   }
 
   /**
+   * The edits of a script in the page. Code that cannot be parsed stays as it is, and is counted.
    * @param {string} code
    * @param {InstrumentOptions} options
    * @param {number} start where the code is in the page
@@ -206,6 +212,7 @@ class PageRewriter {
   }
 
   /**
+   * An import map without `integrity`, as modules have another text.
    * @param {string} code
    * @param {number} start
    */
@@ -239,7 +246,10 @@ class PageRewriter {
     this.replace(attribute, text);
   }
 
-  /** @param {Attribute} attribute */
+  /**
+   * A `javascript:` address, whose code is percent-encoded.
+   * @param {Attribute} attribute
+   */
   rewriteAddress(attribute) {
     const code = codeOfAddress(attribute.value, decodeURIComponent);
     if (code === undefined) this.source.leave('javascript: addresses that are not UTF-8');

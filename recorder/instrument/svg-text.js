@@ -70,7 +70,10 @@ class SvgText {
     }
   }
 
-  /** @param {number} place */
+  /**
+   * The piece of the source in which a place of the script is: by halves, as pieces are in order.
+   * @param {number} place
+   */
   pieceAt(place) {
     let [low, high] = [0, this.pieces.length - 1];
     while (low < high) {
@@ -82,7 +85,7 @@ class SvgText {
   }
 
   /**
-   * The offset in the page for an offset in the code.
+   * The offset in the page for an offset in the code. Called by page.js.
    * @param {number} place
    */
   placeInPage(place) {
@@ -91,7 +94,7 @@ class SvgText {
   }
 
   /**
-   * The edit of the page for one of the code.
+   * The edit of the page for one of the code. Called by page.js.
    * @param {{start: number, end: number, insert: string}} edit
    */
   editOfPage({ start, end, insert }) {

@@ -26,12 +26,14 @@ const IN_SELECT_IN_TABLE = 16;
  * @typedef {TreeMap['element']['namespaceURI']} Namespace
  */
 
+/** The elements whose text is wanted: scripts become copies, a title of SVG may contain tags. */
 const HAS_TEXT = new Set(['script', 'title']);
 
 /** What comes after the name of an attribute. parse5 reports another end if no blank is after a value. */
 const VALUE = /(?:[\t\n\f\r ]*=[\t\n\f\r ]*(?:"[^"]*"|'[^']*'|[^\t\n\f\r >]*))?/y;
 
 /**
+ * The attributes of a start tag with their places in the page. parse5 says only where an attribute starts, so its value is read again.
  * @param {TagToken} token
  * @param {string} html
  */

@@ -5,6 +5,7 @@ const fs = require('node:fs');
 const { instrument } = require('./instrument.js');
 const { readTags } = require('./tags.js');
 
+/** How often each text is read: until Node has compiled the code that reads it. */
 const TIMES_READABLE = 3;
 const TIMES_MINIFIED = 400;
 const TIMES_PAGE = 200;

@@ -42,9 +42,9 @@ test('what the other order does is left out, since it came too', async () => {
   const { text, report } = await judgeLines(['parse 0 1 plain', 'parse 0 2 async', ...click(1), 'exec 2', 'on 1', 'w slot 1 click/1']);
   const listing = new Listing([new Problems(text, NAMES, report)], null);
   const [line] = listing.problems;
-  const said = (/** @type {number[]} */ orders, /** @type {string} */ here) => listing.entries.recordedInWords({ ...line, orders: new Set(orders) }, here);
+  const said = (/** @type {number[]} */ orders, /** @type {string} */ here) => listing.entries.recordedOf({ ...line, look: { ...line.look, here }, orders: new Set(orders) }, []);
   assert.strictEqual(said([1, 2], 'it was there, and in the other order nothing is found'), 'both orders came; here it was there');
   assert.strictEqual(said([1, 2], 'the update came first; in the other order it goes on from -1'), 'both orders came; here the update came first');
   assert.strictEqual(said([1], 'it was there, and in the other order nothing is found'), 'it was there, and in the other order nothing is found');
-  assert.strictEqual(said([1, 2], ''), '');
+  assert.strictEqual(said([1, 2], ''), 'both orders came');
 });

@@ -28,6 +28,9 @@ const AT_FILE = new Set(['load', 'error']);
 /** What comes before the path of an address, and before the last part of it. */
 const ORIGIN = /^\w+:\/\/[^/?#]*/;
 const FOLDERS = /^[^?#]*\/(?=[^/?#])/;
+/** The names of a minified file, and of a function in one. */
+const MINIFIED = /[.-]min\.m?js$/;
+const LONGEST_MINIFIED = 2;
 /** So many requests are followed back from an action to code of the page's own. */
 const MOST_STEPS = 20;
 /** How an action comes from the one that requested it (races/actions.js). */
@@ -100,11 +103,21 @@ class Callbacks {
    * @param {string} what @param {string} verb @param {Asked|undefined} facts @param {number} number of the action
    */
   asked(what, verb, facts, number) {
-    const name = (facts?.function || '').replace(/^(?:bound )+/, '').trim();
+    const name = this.nameOf(facts);
     const at = facts?.place ? `, ${verb} at ${this.placeInWords(facts.place)}` : '';
     const own = at && facts?.place && this.words.isOfLibrary(facts.place) ? this.ownOrigin(number) : null;
     const [word, place] = own ? ['from', own] : ['via', facts?.way];
     return `${what}${name ? ` ${shown(name)}` : ''}${at}${at && place ? ` (${word} ${this.placeInWords(place)})` : ''}`;
+  }
+
+  /**
+   * The name of a function; '' of one that a minifier has named.
+   * @param {Asked|undefined} facts
+   */
+  nameOf(facts) {
+    const name = (facts?.function || '').replace(/^(?:bound )+/, '').trim();
+    const isMinified = (/** @type {Place|null|undefined} */ place) => !!place && (MINIFIED.test(this.words.fileName(place[0])) || this.words.sources.isLong(place));
+    return name.length <= LONGEST_MINIFIED && (isMinified(facts?.place) || isMinified(facts?.way)) ? '' : name;
   }
 
   /**
@@ -174,7 +187,7 @@ class Callbacks {
   }
 
   /**
-   * The last part of the address that a request is for; the whole path, where two sides are told apart. Called by sides.js.
+   * The last part of the address that a request is for; the whole path, where two sides are told apart. Called by race-facts.js.
    * @param {string} number
    */
   request(number) {

@@ -15,7 +15,7 @@ const { judgeText, tracesWithRaces } = require('../test/list-support.js');
  */
 function countedRaces(listing) {
   const names = linesOf(listing).flatMap((line) => /^ {4}\w+ \(for races\.known\)(.*)$/.exec(line)?.[1] ?? []);
-  return names.reduce((sum, words) => sum + 1 + Number(/and (\d+) more race/.exec(words)?.[1] ?? 0), 0);
+  return names.reduce((sum, words) => sum + Number(/: (\d+) races$/.exec(words)?.[1] ?? 1 + Number(/and (\d+) more race/.exec(words)?.[1] ?? 0)), 0);
 }
 
 test('the lines of the list stand for each race of the report once', async () => {

@@ -32,7 +32,7 @@ function labelOf(source, tag) {
 }
 
 /**
- * The value of an attribute in a tag; '' if the tag has none. Called by element-words.js.
+ * The value of an attribute in a tag; '' if the tag has none. Called by without-handler.js.
  * @param {string} source of the page, from the tag on
  * @param {string} tag
  * @param {'class'|'href'} name

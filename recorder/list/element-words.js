@@ -3,12 +3,11 @@
 // from other texts (races/thing-words.js), which never change.
 
 const { FIRST_FIELD, FIRST_MODULE } = require('../common/numbers.js');
-const { attributeOf, labelOf } = require('./element-labels.js');
+const { labelOf } = require('./element-labels.js');
+const { sourceOf, withoutHandler } = require('./without-handler.js');
 
 /** @typedef {import('./types').Place} Place */
 
-/** An address that leads somewhere: also to a place in the page, and not to its top. */
-const LEADS = /^(?!#?$|#top$|javascript:)./i;
 /** Elements that a page has once. */
 const ONCE = new Set(['html', 'head', 'body', 'HTMLDocument', 'Window']);
 
@@ -46,7 +45,8 @@ class ElementWords {
     if (standsFor) return this.named(standsFor);
     const file = this.fileOf(number);
     if (file && !id && !field) return `${tag} ${file}`;
-    return this.words.element(number) + this.labelOf(number);
+    const label = this.labelOf(number);
+    return label.startsWith(' "') && tag === 'a' ? `link${label}` : this.words.element(number) + label;
   }
 
   /**
@@ -99,33 +99,16 @@ class ElementWords {
    */
   labelOf(number) {
     const { tag = '', id, field } = this.names.elements[number] || {};
-    return tag && !id && !field ? labelOf(this.sourceOf(number), tag) : '';
-  }
-
-  /**
-   * The rest of the line in the page's source from the tag of an element on; '' if the place of the tag is unknown.
-   * @param {string|number} number
-   */
-  sourceOf(number) {
-    const place = this.words.placeOfElement(number);
-    if (!place) return '';
-    const [file, line, column] = place;
-    return (this.words.sources.linesOf(file)[line] || '').slice(column - 1);
+    return tag && !id && !field ? labelOf(sourceOf(this.words, number), tag) : '';
   }
 
   /**
    * What the browser does for an event of a user that no handler takes, as the end of a sentence; '' if nothing, or this is unknown.
    * @param {string|number} number of the target
    * @param {string} type of the event
-   * @returns {string}
    */
   withoutHandler(number, type) {
-    const { standsFor } = this.names.elements[number] || {};
-    if (standsFor) return this.withoutHandler(standsFor, type);
-    const tag = this.tagOf(number);
-    if (type === 'submit' && tag === 'form') return 'sends the form';
-    const isLink = type === 'click' && (tag === 'a' || tag === 'area');
-    return isLink && LEADS.test(attributeOf(this.sourceOf(number), tag, 'href')) ? 'follows the link' : '';
+    return withoutHandler(this.words, number, type);
   }
 
   /**

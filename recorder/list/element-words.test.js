@@ -26,10 +26,10 @@ test('by the file, the classes, or the place in the page or of the code that mad
 });
 
 test('what the browser does for a click or a submit that no handler takes', () => {
-  const links = ['<a href="a.html">a', '<a href="#part">b', '<a href="#">c', '<a href="javascript:go()">d', '<a>e', '<a href="#TOP">f', '<form action=x>'];
+  const links = ['<a href="../a.html?b=c">a', '<a href="#part">b', '<a href="#">c', '<a href="javascript:go()">d', '<a>e', '<a href="#TOP">f', '<form action=x>'];
   const facts = { ...NAMES, files: [{ address: 'http://localhost/page.html', text: links.join('\n') }], elements: Object.fromEntries(links.map((_, k) => [k + 1, { tag: k === 6 ? 'form' : 'a', place: /** @type {[number, number, number]} */ ([0, k + 1, 1]) }])) };
   const some = new ElementWords(new Words(facts, new Actions('webtrace 3\nend\n')), () => '');
-  assert.deepStrictEqual(links.map((_, k) => some.withoutHandler(k + 1, 'click')), ['follows the link', 'follows the link', '', '', '', '', '']);
+  assert.deepStrictEqual(links.map((_, k) => some.withoutHandler(k + 1, 'click')), ['follows the link to a.html', 'follows the link to #part', '', '', '', '', '']);
   assert.deepStrictEqual([some.withoutHandler(7, 'submit'), some.withoutHandler(1, 'mousedown'), some.withoutHandler(99, 'click')], ['sends the form', '', '']);
 });
 

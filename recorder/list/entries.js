@@ -3,8 +3,10 @@
 // the printed report.
 
 const { ASKED } = require('./callbacks.js');
-const { OF_AGAIN, OF_IDLE, fixOfNone, fixOfSame, fixOfSeveral } = require('./fixes.js');
+const { OF_AGAIN, fixOfIdle, fixOfNone, fixOfSame, fixOfSeveral } = require('./fixes.js');
 const { alsoByCall, callOf } = require('./registering-calls.js');
+const { repliesOf } = require('./race-facts.js');
+const { SameCauses } = require('./same-causes.js');
 const { Sides, summaryOf } = require('./sides.js');
 const { pathInFolder } = require('./places.js');
 const { APART, HARMLESS, IDLE, SAME, UNCHANGED } = require('./patterns/table.js');
@@ -25,6 +27,10 @@ const { APART, HARMLESS, IDLE, SAME, UNCHANGED } = require('./patterns/table.js'
  * @typedef {{place: string, sentence: string, look: string, part: string, sides: FullSide[], details: [label: string, text: string][], name: string, more: string}} Entry
  */
 
+const BOTH = 'both orders came';
+const IN_OTHER_ORDER = /[,;] (?:and )?in the other order .*$/;
+/** The sum of the two orders. */
+const BOTH_ORDERS = 3;
 const MOST_NAMED = 3;
 /** Sections of which no problem says that it was not replayed. */
 const NOT_WANTED = new Set([APART, HARMLESS, IDLE]);
@@ -62,6 +68,7 @@ class Entries {
      * @type {(line: Listed) => string}
      */
     this.notReplayedWords = () => '';
+    this.sameCauses = new SameCauses(this);
   }
 
   /**
@@ -84,7 +91,7 @@ class Entries {
   }
 
   /**
-   * The place of a problem's first line. Called by listing.js.
+   * The place of a problem's first line. Called by entry-places.js.
    * @param {Listed} line
    */
   placeOf(line) {
@@ -105,8 +112,8 @@ class Entries {
    */
   fixOf(line, others) {
     const part = this.listing.partOf(line);
-    const { fix } = this.toldOf(line);
-    const own = part === IDLE ? fixOfNone(OF_IDLE, fix) : part === HARMLESS && line.look.comesAgain ? fixOfNone(OF_AGAIN, fix) : part === SAME ? fixOfSame(fix) : fix;
+    const { fix, sides } = this.toldOf(line);
+    const own = part === IDLE ? fixOfIdle(fix, sides[1].event) : part === HARMLESS && line.look.comesAgain ? fixOfNone(OF_AGAIN, fix) : part === SAME ? fixOfSame(fix) : fix;
     return this.isOfSeveral(line, others) ? fixOfSeveral(own, others.map((one) => this.toldOf(one).fix)) : own;
   }
 
@@ -172,7 +179,7 @@ class Entries {
   }
 
   /**
-   * The event of a race that looks for handlers, as `click at button "Save"`; '' if there is none. Called by replay-command.js.
+   * The event of a race that looks for handlers, as `click at button "Save"`; '' if there is none. Called by replay-results.js.
    * @param {number} run @param {number} race its index
    */
   eventOf(run, race) {
@@ -193,24 +200,46 @@ class Entries {
    * @param {Listed} line @param {Listed[]} others @returns {Entry['details']}
    */
   details(line, others) {
-    const { look } = line;
-    const isChanging = others.some((one) => one.look.look === look.look && !one.look.isUnchanged);
-    const here = isChanging ? look.here.replace(UNCHANGED, '') : look.here;
     const cause = this.causeOf(line);
     const replay = this.listing.verdictOf(line);
     const seen = this.listing.seenInWords(line);
     /** @type {Entry['details']} */
-    const all = [['cause', cause ? summaryOf(cause) : ''], ['recorded', this.recordedInWords(line, here)], ['replayed', replay ? replay.sentence || replay.words : this.notReplayed(line)], ['runs', seen], ['fix', this.fixOf(line, others)]];
+    const all = [['cause', cause ? summaryOf(cause) : ''], this.sameCauses.of(line), ['recorded', this.recordedOf(line, others)],
+      ['replayed', replay ? replay.sentence || replay.words : this.notReplayed(line)], ['runs', seen], ['fix', this.fixOf(line, others)]];
     return all.filter(([, text]) => text);
   }
 
   /**
-   * Which order the recording had, in words. If another race of the problem had the other one, nobody has to guess what that does.
-   * @param {Listed} line @param {string} here the order of the race that is shown
+   * Which of the two orders the recording had; if races of the entry came in both, nobody has to guess what the other order does. Called by listing.js.
+   * @param {Listed} line @param {Listed[]} others
    */
-  recordedInWords({ orders }, here) {
-    const isBoth = this.listing.runs.length === 1 && orders.size > 1; // of several runs another line has it
-    return here && isBoth ? `both orders came; here ${here.replace(/[,;] (?:and )?in the other order .*$/, '')}` : here;
+  recordedOf(line, others) {
+    const { look } = line;
+    const alike = [line, ...others.filter((one) => one.look.look === look.look)];
+    const isChanging = alike.some((one) => !one.look.isUnchanged);
+    const here = isChanging ? look.here.replace(UNCHANGED, '') : look.here;
+    const { recorded, turned } = this.toldOf(line);
+    const isOneRun = this.listing.runs.length === 1; // of several runs another line has it
+    if (!isOneRun || !alike.some((one) => one.worst === undefined && this.isInBothOrders(one))) return here || recorded;
+    return [BOTH, here ? `here ${here.replace(IN_OTHER_ORDER, '')}` : turned].filter(Boolean).join('; ');
+  }
+
+  /**
+   * Whether races of a problem came in both orders.
+   * @param {Listed} line
+   */
+  isInBothOrders(line) {
+    return line.orders.size > 1 || [...line.seen.values()].some(({ orders }) => orders === BOTH_ORDERS) || this.hasBothReplies(line);
+  }
+
+  /**
+   * Whether of the replies of a problem some came in the order of their requests, and some did not. Called by loads-run.js.
+   * @param {Listed} line
+   */
+  hasBothReplies({ run, races, look }) {
+    if (look.look !== 'replies') return false;
+    const { report } = this.listing.runs[run];
+    return new Set(races.slice(0, MOST_RACES).map((race) => repliesOf(this.sidesOf(run), report.races[race])?.isInOrder)).size > 1;
   }
 
   /**
@@ -222,13 +251,13 @@ class Entries {
   }
 
   /**
-   * How many races a line stands for besides its own, in words.
+   * How many races a line stands for, in words; of one problem besides its own.
    * @param {Listed} line @param {Listed[]} others
    */
   more(line, others) {
     const size = [line, ...others].reduce((sum, one) => sum + this.listing.size(one), 0);
-    const inProblems = others.length ? ` in ${others.length + 1} problems` : '';
-    return size > 1 ? `and ${size - 1} more race${size > 2 ? 's' : ''}${inProblems}` : '';
+    if (others.length) return `in all, ${others.length + 1} problems: ${size} races`;
+    return size > 1 ? `and ${size - 1} more race${size > 2 ? 's' : ''}` : '';
   }
 }
 

@@ -95,10 +95,14 @@ function sideLines({ sides }, style) {
   });
 }
 
-/** @param {Entry} entry @param {Style} style */
+/**
+ * An entry: head, sides, details, and the stable name last, which a build needs.
+ * @param {Entry} entry
+ * @param {Style} style
+ */
 function entryLines(entry, style) {
   const details = entry.details.flatMap(([label, text]) => wrapped(`${INDENT}${label}: ${text}`, style.width, INDENT.repeat(2)));
-  const name = `${INDENT}${entry.name} (for races.known)${entry.more ? `, ${entry.more}` : ''}`;
+  const name = `${INDENT}${entry.name} (for races.known)${entry.more ? `${entry.more.startsWith('in all') ? ';' : ','} ${entry.more}` : ''}`;
   return [...headLines(entry, style), ...sideLines(entry, style), ...details, name];
 }
 

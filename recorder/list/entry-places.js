@@ -3,7 +3,7 @@
 
 /** @typedef {import('./listing.js').Listing} Listing */
 
-/** Made by replay-command.js when the list has its order. */
+/** Made by replay-results.js when the list has its order. */
 class EntryPlaces {
   /** @param {Listing} listing */
   constructor(listing) {

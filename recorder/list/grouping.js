@@ -1,6 +1,7 @@
 'use strict';
 // Which problems are one entry of the list, and by which of them it is shown.
 
+const { LINKS } = require('./patterns/table.js');
 const { shownByChange } = require('./registering-calls.js');
 
 /**
@@ -32,6 +33,16 @@ function shownByOneCallback({ line, others }, rankOf) {
 }
 
 /**
+ * A line of handlers that one call registers is shown by the click at a link, if what is worse in it only comes along with a click at one.
+ * @param {Listing} listing @param {Line} told @returns {Line}
+ */
+function shownByLink(listing, { line, others }) {
+  const link = line.look.link === 'part' && !listing.verdictOf(line) && others.find((one) => one.look.link === 'click' && listing.partOf(one) === LINKS);
+  const isWorse = (/** @type {Listed} */ one) => listing.partOf(one) === listing.partOf(line) && one.look.link !== 'part';
+  return link && !others.some(isWorse) ? { line: link, others: [line, ...others.filter((one) => one !== link)] } : { line, others };
+}
+
+/**
  * The lines of the list: what is new at one location, and in one section of the list, is one line, and late handlers that one call registers. In a build each
  * problem is a line, with its name. Called by listing.js.
  * @param {Listing} listing @returns {Line[]}
@@ -46,8 +57,20 @@ function grouped(listing) {
     else lines.set(key, { line, others: [] });
   }
   const inWords = (/** @type {Listed} */ each) => JSON.stringify([each.look.look, listing.partOf(each), listing.rankOf(each)]);
-  const isReplayed = (/** @type {Listed} */ each, /** @type {Listed} */ line) => !!listing.verdictOf(each) && listing.partOf(each) === listing.partOf(line);
-  return [...lines.values()].map((one) => shownByOneCallback(shownByChange(one, inWords, (each) => isReplayed(each, one.line)), inWords));
+  const isReplayed = (/** @type {Listed} */ each, /** @type {Listed} */ line) => (
+    !!listing.verdictOf(each) && [listing.partOf(line), ...listing.partOf(line) === LINKS ? [line.look.part] : []].includes(listing.partOf(each)));
+  const shown = [...lines.values()].map((one) => shownByLink(listing, shownByOneCallback(shownByChange(one, inWords, (each) => isReplayed(each, one.line)), inWords)));
+  return inSections(listing, shown);
+}
+
+/**
+ * Lines in the order of the first problem of each that is in the line's section, so that no section comes twice.
+ * @param {Listing} listing @param {Line[]} lines
+ */
+function inSections(listing, lines) {
+  const indices = new Map(listing.fresh().map((one, k) => [one, k]));
+  const indexOf = (/** @type {Line} */ { line, others }) => Math.min(...[line, ...others].filter((one) => listing.partOf(one) === listing.partOf(line)).map((one) => indices.get(one) ?? 0));
+  return lines.map((one) => ({ one, index: indexOf(one) })).sort((a, b) => a.index - b.index).map(({ one }) => one);
 }
 
 module.exports = { grouped };

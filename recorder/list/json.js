@@ -1,5 +1,5 @@
 'use strict';
-// The list as one object for other tools (docs/ci.md). The output of `--json`: its members and `format`.
+// The list as one object for other tools (docs/ci.md). The output of `--json`: its members (fields) and `format` (its version).
 
 const { placesOf, plainPlace } = require('./places.js');
 const { kindOf } = require('./verdicts.js');
@@ -50,6 +50,7 @@ function plainProblem(listing, problem, index, { failing, lines }, folder) {
     seen: look.seen,
     words,
     summary: listing.summaryOf(problem),
+    recorded: listing.recordedOf(problem),
     fix: listing.fixOf(problem),
     rank: { number: index + 1, reason: listing.rankOf(problem).reason },
     isKnown,

@@ -49,9 +49,9 @@ test('a problem that is known is set apart, and the others are told', async () =
   assert.deepStrictEqual(listing.fresh().map(({ words }) => words.slice(0, 3)), ['"y"']);
   const lines = linesOf(listing);
   assert.match(lines[0], /^page {2}`y` keeps what is written last, by the script b\.js or by the script a\.js +other$/);
-  assert.match(lines[4], /^ {4}[0-9a-f]{12} \(for races\.known\)$/);
-  assert.strictEqual(lines[6], 'Known, in known:');
-  assert.match(lines[7], /^ {2}[0-9a-f]{12} `x` keeps what is written last, by the script b\.js or by the script a\.js at page\.html:2$/);
+  assert.match(lines[5], /^ {4}[0-9a-f]{12} \(for races\.known\)$/);
+  assert.strictEqual(lines[7], 'Known, in known:');
+  assert.match(lines[8], /^ {2}[0-9a-f]{12} `x` keeps what is written last, by the script b\.js or by the script a\.js at page\.html:2$/);
   assert.strictEqual(lines[lines.length - 1], 'Known, and not seen: 0123456789ab gone "z"');
   const all = new Listing([one], new Known(listing.problems.map(({ name }) => name).join('\n'), 'known'));
   assert.strictEqual(linesOf(all)[0], 'No race that is not known.');

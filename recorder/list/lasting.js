@@ -33,7 +33,11 @@ const withoutLongNumbers = (text) => text.replace(/\d{5,}/g, '0');
 /** @type {WeakMap<Names, SourceText>} */
 const textsOf = new WeakMap();
 
-/** @param {string[]} sides @returns {0|1|2} */
+/**
+ * The order of two sides by their names: 1 or 2, so that the sum of both says that both orders came; 0 if they have one name.
+ * @param {string[]} sides
+ * @returns {0|1|2}
+ */
 function orderOf([first, second]) {
   if (first === second) return 0;
   return first < second ? 1 : 2;

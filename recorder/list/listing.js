@@ -48,7 +48,7 @@ class Listing {
   }
 
   /**
-   * What came of the races of a run in the other order: the members of OUT.replay.json. Called by replay-command.js and suite-replays.js.
+   * What came of the races of a run in the other order: the members of OUT.replay.json. Called by replay-results.js and suite-replays.js.
    * @param {number} run @param {Verdict[]} races
    */
   setVerdicts(run, races) {
@@ -244,6 +244,14 @@ class Listing {
    */
   summaryOf(line) {
     return this.entries.summaryOf(line);
+  }
+
+  /**
+   * Which order of a problem the recording had. Called by json.js.
+   * @param {Listed} line
+   */
+  recordedOf(line) {
+    return this.entries.recordedOf(line, []);
   }
 
   /**

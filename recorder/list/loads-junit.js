@@ -43,7 +43,11 @@ function caseOf(listing, problem, failing) {
   return { part: listing.partOf(problem), text: `<testcase${facts}>${failure}</testcase>`, isFailing };
 }
 
-/** @param {string} name @param {Case[]} cases */
+/**
+ * The test suite of one page, with its test cases.
+ * @param {string} name
+ * @param {Case[]} cases
+ */
 function suiteOf(name, cases) {
   const failures = cases.filter(({ isFailing }) => isFailing).length;
   const facts = attributes({ name, tests: cases.length, failures, errors: 0, skipped: 0, time: 0 });

@@ -1,5 +1,6 @@
 'use strict';
-// The list over many page loads of a test suite: each problem once, with the loads in which it was seen. It merges all loads.
+// The list over many page loads of a test suite: each problem once, with the loads in which it was seen. It merges all loads: a problem of two tests is one
+// line.
 
 const { Entries } = require('./entries.js');
 const { Listing } = require('./listing.js');
@@ -18,7 +19,10 @@ class LoadEntries extends Entries {
     this.notReplayedWords = (/** @type {Listed} */ { name }) => (listing.verdicts.some((some) => some?.size) ? `no (--replay ${name} does it)` : '');
   }
 
-  /** @param {Listed} line */
+  /**
+   * What the process that analyzed a load has said of a problem: this one has no trace of it.
+   * @param {Listed} line
+   */
   saidOf({ run, name }) {
     const said = this.loads[run].said.get(name);
     if (!said) throw new Error(`load ${run + 1} has not stored what is said of ${name}`);
@@ -38,6 +42,11 @@ class LoadEntries extends Entries {
   /** @param {Listed} line */
   alsoOf(line) {
     return this.saidOf(line).alsos;
+  }
+
+  /** @param {Listed} line */
+  hasBothReplies(line) {
+    return this.saidOf(line).hasBoth;
   }
 
   /** @param {Listed} line */

@@ -19,7 +19,12 @@ const link = (file, text) => `<a href="${escapeText(file.split('/').map(encodeUR
 /** @param {number} number @param {string} one */
 const count = (number, one) => `${number} ${one}${number === 1 ? '' : 's'}`;
 
-/** @param {LoadsListing} listing @param {string[]} links @param {Listed} one */
+/**
+ * A problem in the page, with links to the views of the first loads that have it.
+ * @param {LoadsListing} listing
+ * @param {string[]} links
+ * @param {Listed} one
+ */
 function problemItem(listing, links, one) {
   const seen = one.runs.slice(0, MOST_LOADS).map((run) => link(links[run - 1], String(run))).join(', ');
   const more = one.runs.length > MOST_LOADS ? `, and ${one.runs.length - MOST_LOADS} more` : '';
@@ -28,7 +33,11 @@ function problemItem(listing, links, one) {
     + ` <code>${one.name}</code>${replayed && `<br>Replayed: ${escapeText(replayed)}`}<br>Usual change: ${escapeText(listing.fixOf(one))}<br>in ${one.runs.length === 1 ? 'load' : 'loads'} ${seen}${more}${one.orders.size > 1 ? ', in both orders' : ''}</li>`;
 }
 
-/** @param {LoadsListing} listing @param {string[]} links */
+/**
+ * The problems by section, known ones last.
+ * @param {LoadsListing} listing
+ * @param {string[]} links
+ */
 function problemList(listing, links) {
   const lines = listing.fresh();
   const known = listing.knownLines();
@@ -38,6 +47,7 @@ function problemList(listing, links) {
 }
 
 /**
+ * A load in the table: its address and test, how many problems and errors it has, and why its recording ended.
  * @param {import('./types').Load} load
  * @param {number} number
  * @param {string} file

@@ -15,8 +15,9 @@ const { placesOf } = require('./places.js');
  * @typedef {{words: string, location: [spelled: string, words: string], actions: {[number: number]: string}, places: {[access: string]: Place|null}, functions: {[place: string]: string}}} Shown
  */
 /**
- * What the list says of a problem: its sentence and sides, what else has their places, and the sentence of its cause, if it has the pattern of another race.
- * @typedef {{told: import('./sides.js').Told, alsos: string[], cause: import('./sides.js').Told|null}} Said
+ * What the list says of a problem: its sentence and sides, what else has their places, the sentence of its cause, if it has the pattern of another race, and whether
+ * replies came in both orders.
+ * @typedef {{told: import('./sides.js').Told, alsos: string[], cause: import('./sides.js').Told|null, hasBoth: boolean}} Said
  */
 /**
  * The races of a load by the numbers that they have here.
@@ -69,7 +70,7 @@ function saidOf(problems, named, copy) {
   return new Map(list.filter(({ name }) => named.has(name)).map((one) => {
     const cause = one.worst === undefined ? null : entries.sidesOf(0).of(one.first, problems.ofRaces[one.first].look.look);
     const alsos = one.worst === undefined ? entries.alsoOf(one) : [];
-    return [copy(one.name), JSON.parse(JSON.stringify({ told: entries.toldOf(one), alsos, cause }))];
+    return [copy(one.name), JSON.parse(JSON.stringify({ told: entries.toldOf(one), alsos, cause, hasBoth: entries.hasBothReplies(one) }))];
   }));
 }
 

@@ -14,6 +14,7 @@ const { Remaining } = require('./patterns/remaining.js');
 const { isRemoval } = require('./patterns/removals.js');
 const { UNCHANGED, detailOf, isAgain, lookOf } = require('./patterns/table.js');
 const { isTypedOver } = require('./patterns/typed.js');
+const { linkOf } = require('./without-handler.js');
 
 /**
  * @typedef {import('./patterns/table.js').Look} Look
@@ -119,8 +120,20 @@ class Looks {
     const isUnchanged = k === 1 && this.idle.isUnchanged(number, handler);
     const here = k === 0 ? 'here it came before the handler was set' : `here the handler was there${isUnchanged ? UNCHANGED : ''}`;
     const isOfLittle = look === 'missed' || this.idle.isOfLittle(number, target, type);
-    const facts = { isUnchanged, isIdle: isUnchanged && isOfLittle, isOfLittle, comesAgain: look === 'late' && isAgain(type) };
+    const link = look === 'late' ? this.linkOf(number, type, isUnchanged) : '';
+    const facts = { isUnchanged, isIdle: isUnchanged && isOfLittle, isOfLittle, comesAgain: look === 'late' && isAgain(type), link };
     return lookOf(look, `a handler that comes late: ${this.words.action(number)} may find none; ${here}`, detailOf(look, 'slot', type), facts);
+  }
+
+  /**
+   * Whether an event is a click at a link, or comes along with it. A handler that ran and changed nothing might ask before the browser follows the link.
+   * @param {number} number of the action that starts the dispatch @param {string} type @param {boolean} isUnchanged
+   * @returns {Look['link']}
+   */
+  linkOf(number, type, isUnchanged) {
+    const { words: [word, , element] } = this.actions.list[this.actions.list[number].first];
+    const link = word === 'fire' || word === 'inline' ? linkOf(this.words, element, type) : '';
+    return link === 'click' && isUnchanged ? '' : link;
   }
 
   /**
@@ -169,14 +182,21 @@ class Looks {
     return isOfTwo && (isOver(0) || isOver(1)) ? lookOf('replies', 'an answer may overwrite a newer one') : null;
   }
 
-  /** @param {Race} race @param {number} act the side of the user's act */
+  /**
+   * A write over what an act of the user wrote; `act` is the side of the act.
+   * @param {Race} race
+   * @param {number} act the side of the user's act
+   */
   overAct({ location }, act) {
     const order = act === 0 ? 'here the user came first, and it was written over' : 'here the user came last';
     if (isField(location)) return lookOf('field', `a field written over what a user typed; ${order}`);
     return lookOf('act', `what a user's act wrote may be written over; ${order}`);
   }
 
-  /** @param {Race} race */
+  /**
+   * A write over what a user typed, before anything has read it; null if it is none.
+   * @param {Race} race
+   */
   typed(race) {
     if (!isField(race.location) || !isTypedOver(race, this.accesses, this.actions.list)) return null;
     return lookOf('field', `a field written over what a user typed, before it is read; here it was ${race.modes[0] === 'w' ? 'written' : 'read'} first`, 'read');
@@ -213,7 +233,10 @@ class Looks {
     return hasFound ? null : lookOf('undefined', `${what}: here nothing was found`, detail);
   }
 
-  /** @param {Race} race */
+  /**
+   * A variable that each action writes whole before it reads it: whichever comes first, nothing is lost. Null if it is none.
+   * @param {Race} race
+   */
   scratch({ location, modes, lines, actions }) {
     const { kept } = this.accesses;
     const isOwn = lines.every((line, k) => modes[k] === 'w' || kept[line] || this.accesses.isWrittenBefore(location, actions[k], line));

@@ -57,7 +57,10 @@ function noneInWords(listing, isComplete, { done = '', unserved = '' }) {
   return `${recorded}${unserved && (isComplete ? `, but ${unserved}` : `; ${unserved}`)}.${done && ` Done in the page: ${done}.`}`;
 }
 
-/** @param {Listing} listing */
+/**
+ * The lines after the list: known problems that are there, and those that no recording had.
+ * @param {Listing} listing
+ */
 function knownLines(listing) {
   const known = listing.knownLines();
   const head = known.length ? [`Known, in ${listing.known?.file}:`] : [];
@@ -66,17 +69,21 @@ function knownLines(listing) {
 }
 
 /**
- * How many problems there are, by section.
+ * How many problems there are, in how many entries, and how many entries each section has.
  * @param {Listing} listing
  */
 function countsOf(listing) {
-  const parts = listing.told().map(({ line }) => listing.partOf(line));
+  const told = listing.told();
+  const parts = told.map(({ line }) => listing.partOf(line));
   const counts = [...new Set(parts)].map((part) => `${part}: ${parts.filter((one) => one === part).length}`);
-  return `${parts.length} problem${parts.length === 1 ? '' : 's'}${counts.length ? ` (${counts.join('; ')})` : ''}`;
+  const problems = told.reduce((sum, { others }) => sum + 1 + others.length, 0);
+  const inEntries = problems > told.length ? ` in ${told.length} entr${told.length === 1 ? 'y' : 'ies'}` : '';
+  return `${problems} problem${problems === 1 ? '' : 's'}${inEntries}${counts.length ? ` (${counts.join('; ')})` : ''}`;
 }
 
 /**
- * The last line of all, as `1 problem (may throw: 1)`, which page-races.js and loads.js print with the name of the view: how many problems there are by section, how many are known, what replays found, and whether the recordings lack something.
+ * The last line of all, as `1 problem (may throw: 1)`, which page-races.js and loads.js print with the name of the view: how many problems and entries there are,
+ * how many are known, what replays found, and whether the recordings lack something.
  * @param {Listing} listing
  */
 function totalsOf(listing) {
@@ -86,7 +93,10 @@ function totalsOf(listing) {
     ...(replays ? [replays] : []), ...incompleteInWords(listing)].join(', ');
 }
 
-/** @param {Listing} listing */
+/**
+ * How many recordings lack something of what was to be recorded, at the end of the last line.
+ * @param {Listing} listing
+ */
 function incompleteInWords({ runs }) {
   const count = runs.filter(({ notComplete }) => notComplete.length).length;
   if (!count) return [];

@@ -42,6 +42,7 @@ function uriOfFile(address, folder) {
 }
 
 /**
+ * The path of a file of the served folder in it; null if an address is none of its files.
  * @param {string} address
  * @param {Folder} folder
  */
@@ -54,6 +55,7 @@ function fileOf(address, folder) {
 }
 
 /**
+ * Whether a file is in a folder, or is that folder.
  * @param {string} folder
  * @param {string} file
  */
@@ -115,6 +117,7 @@ function parsed(address) {
 }
 
 /**
+ * A place as an object, with the path of its file if that is a file of the served folder; null if none is known.
  * @param {Problems} problems
  * @param {Place|null} place
  * @param {Folder|null} folder

@@ -174,7 +174,11 @@ class Problems {
     return worst;
   }
 
-  /** @param {Problem} one @param {number|undefined} race */
+  /**
+   * A problem has the pattern of a race that it covers, if that is worse.
+   * @param {Problem} one
+   * @param {number|undefined} race
+   */
   lookAs(one, race) {
     if (race === undefined || !isWorse(this.ofRaces[race].look, one.look)) return;
     const { look } = this.ofRaces[race];
@@ -194,8 +198,8 @@ class Problems {
   }
 
   /**
-   * Whether both sides of a race write a thing that has no parts. Called by race-facts.js.
-   * @param {Race} race
+   * Whether both sides of a race write a thing that has no parts. Called by other-order.js and race-facts.js.
+   * @param {Pick<Race, 'location'|'modes'>} race
    */
   isWhole({ location, modes }) {
     return modes === 'ww' && location.startsWith('var ') && !IN_PARTS.test(location);
@@ -238,7 +242,7 @@ class Problems {
  * Whether two patterns differ at most in the order that the recording had.
  * @param {Look} one @param {Look} other
  */
-const isAlike = (one, other) => one.look === other.look && one.detail === other.detail && one.isUnchanged === other.isUnchanged && one.isIdle === other.isIdle;
+const isAlike = (one, other) => one.look === other.look && one.detail === other.detail && one.isUnchanged === other.isUnchanged && one.isIdle === other.isIdle && one.link === other.link;
 
 /**
  * The first of some races that has the places which most races have: calls of a library come from several places of the page's own code.

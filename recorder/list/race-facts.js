@@ -5,6 +5,7 @@
 const { wayOf } = require('./registering-calls.js');
 
 /**
+ * @typedef {import('./types').Place} Place
  * @typedef {import('./types').Race} Race
  * @typedef {import('./sides.js').Sides} Sides
  */
@@ -17,22 +18,37 @@ const { wayOf } = require('./registering-calls.js');
 const EVENTS = new Set(['fire', 'wfire', 'inline']);
 
 /**
- * Of an event that looks for handlers: the tag of its target, what the browser does without a handler, whether a library registers it, and in what the page
- * itself registers one of the document or the window. Called by sides.js.
+ * Of an event that looks for handlers: the tag of its target, what the browser does without a handler, whether a library registers it for the page's own call, the
+ * script of a library that registers it by itself, and in what the page itself registers one of the document or the window. Called by sides.js.
  * @param {Sides} sides @param {Race} race
- * @returns {{isByLibrary?: boolean, ofPage?: ''|'script'|'callback', tag?: string, otherwise?: string}}
+ * @returns {{isByLibrary?: boolean, ofPage?: ''|'script'|'callback', script?: {file: string, place: Place|null}, tag?: string, otherwise?: string, isLink?: boolean}}
  */
-function lookUpOf({ words, elements }, { location, modes, lines, actions }) {
+function lookUpOf(sides, race) {
+  const { words, elements } = sides;
+  const { location, modes, lines, actions } = race;
   const reader = modes.indexOf('r');
   if (!location.startsWith('slot ') || reader < 0) return {};
   const { list } = words.actions;
   const writer = actions[1 - reader];
   const isByLibrary = !!wayOf(words, lines[1 - reader], location, words.placeOfAccess(lines[1 - reader], writer));
+  const script = scriptOf(sides, lines[1 - reader], list[list[writer].first].words);
   const from = list[list[writer].first].words[0] === 'exec' ? 'script' : 'callback';
   const ofPage = !isByLibrary && elements.isOfPage(location.split(' ')[1]) ? from : '';
   const { words: [word, , element, type] } = list[list[actions[reader]].first];
-  if (!EVENTS.has(word) || word === 'wfire') return { isByLibrary, ofPage };
-  return { isByLibrary, ofPage, tag: elements.tagOf(element), otherwise: elements.withoutHandler(element, words.unescape(type)) };
+  if (!EVENTS.has(word) || word === 'wfire') return { isByLibrary, ofPage, script };
+  const otherwise = elements.withoutHandler(element, words.unescape(type));
+  return { isByLibrary, ofPage, script, tag: elements.tagOf(element), otherwise, isLink: otherwise.startsWith('follows') };
+}
+
+/**
+ * The script of an action that registers a handler in a library, without a call of the page's own code that is known.
+ * @param {Sides} sides @param {number} line of the trace @param {string[]} action the words of its record
+ */
+function scriptOf({ words, elements, problems }, line, [word, element]) {
+  const place = words.placeOfLine(line);
+  const isOwn = !place || !words.isOfLibrary(place) || !!problems.names.callers?.[line];
+  const file = word === 'exec' && !isOwn ? elements.fileOf(element) : '';
+  return file ? { file, place: words.placeOfElement(element) } : undefined;
 }
 
 /**

@@ -2,7 +2,7 @@
 // The order of the list: by what a problem does to the user of the page. What a replay found comes first, then the pattern with its measured share of harm. It
 // is the severity of a race: harmful ones come first. Used by listing.js.
 
-const { APART, HARMLESS, IDLE, SAME } = require('./patterns/table.js');
+const { APART, HARMLESS, IDLE, LINKS, SAME } = require('./patterns/table.js');
 
 /**
  * @typedef {import('./patterns/table.js').Look} Look
@@ -32,6 +32,8 @@ const ASSUMED = { 'loses what a user does': 0.5, 'may throw': 0.2, other: 0.05, 
 const WEIGHT = 2;
 /** What is assumed of a lost event whose handler changed nothing when it ran: its section comes after those of all other patterns of a page. */
 const ASSUMED_OF_IDLE = 0.001;
+/** What is assumed of a click that follows a link without its handler: it comes after other lost events. */
+const ASSUMED_OF_LINKS = 0.02;
 
 const ERROR = 'an uncaught error';
 const LOST_EVENTS = new Set(['a lost act', 'a lost event']);
@@ -47,7 +49,6 @@ const LEVELS = { error: 0, content: 1, chance: 2, event: 3, same: 4 };
 /** @param {number[]} judged @param {number} assumed */
 const shareOf = ([harmful, judged], assumed) => (harmful + WEIGHT * assumed) / (judged + WEIGHT);
 
-
 /**
  * What the judged problems tell apart: a pattern, with its detail.
  * @param {{look: string, detail?: string}} look
@@ -56,10 +57,14 @@ const kindOf = ({ look, detail }) => (detail ? `${look} ${detail}` : look);
 
 /**
  * The chance of harm of a pattern.
- * @param {Pick<Look, 'look'|'part'|'detail'|'isIdle'|'comesAgain'>} look
+ * @param {Pick<Look, 'look'|'part'|'detail'|'isIdle'|'comesAgain'|'link'>} look
  * @param {Shares} judged
  */
-const chanceOf = (look, judged) => (look.isIdle ? ASSUMED_OF_IDLE : shareOf(judged[kindOf(look)] || [0, 0], ASSUMED[look.comesAgain ? HARMLESS : look.part] ?? 0));
+function chanceOf(look, judged) {
+  if (look.isIdle) return ASSUMED_OF_IDLE;
+  if (look.link === 'click') return ASSUMED_OF_LINKS;
+  return shareOf(judged[kindOf(look)] || [0, 0], ASSUMED[look.comesAgain ? HARMLESS : look.part] ?? 0);
+}
 
 /** @type {{[detail: string]: string}} */
 const OF_DETAIL = { '': '', choosing: ', of an event by which a user chooses,', element: ', of an element that is looked up,', read: ', of a field that is read later,', one: ', of one act,' };
@@ -67,6 +72,7 @@ const OF_DETAIL = { '': '', choosing: ', of an event by which a user chooses,', 
 /** @param {Look} look @param {Shares} shares */
 function reasonOf(look, shares) {
   if (look.isIdle) return 'its handler ran, and changed nothing that is recorded';
+  if (look.link === 'click') return 'without its handler, a click follows the link';
   const [harmful, judged] = shares[kindOf(look)] || [0, 0];
   const pattern = `the pattern "${look.name}"${OF_DETAIL[look.detail]}`;
   return judged ? `of ${judged} judged problems of ${pattern} ${harmful} did harm` : `no problem of ${pattern} was judged`;
@@ -96,26 +102,33 @@ function levelOf(verdict) {
 }
 
 /**
+ * A verdict without what a link does by itself: it changes the hash of the address.
+ * @param {Pick<Look, 'link'>} look @param {Verdict} verdict
+ * @returns {Verdict}
+ */
+const ofLook = ({ link }, verdict) => (link && verdict.differences ? { ...verdict, differences: verdict.differences.filter(({ kind }) => kind !== 'hash') } : verdict);
+
+/**
  * @param {Look} look
  * @param {Verdict} [verdict]
  * @param {Shares} [judged]
  * @returns {Rank}
  */
 function rankOf(look, verdict, judged = JUDGED) {
-  const found = verdict?.verdict === 'turned' ? levelOf(verdict) : { level: LEVELS.chance, reason: reasonOf(look, judged) };
+  const found = verdict?.verdict === 'turned' ? levelOf(ofLook(look, verdict)) : { level: LEVELS.chance, reason: reasonOf(look, judged) };
   return { chance: chanceOf(look, judged), ...found };
 }
 
 /**
- * The section of a problem: that of its pattern; of late handlers that changed nothing, or whose event comes again, another one, unless a replay found that
- * more differs without the handler; and one of its own if a replay found no visible difference. It never contradicts the usual change (fixes.js).
+ * The section of a problem: that of its pattern; of late handlers that changed nothing, whose event comes again, or of links, another one, unless a replay found
+ * that more differs without the handler; and one of its own if a replay found no visible difference. It never contradicts the usual change (fixes.js).
  * @param {Look} look
  * @param {Verdict} [verdict]
  */
 function partOf(look, verdict) {
-  const level = verdict?.verdict === 'turned' ? levelOf(verdict).level : LEVELS.event;
+  const level = verdict?.verdict === 'turned' ? levelOf(ofLook(look, verdict)).level : LEVELS.event;
   const isIdle = look.isIdle || (look.isOfLittle && !!verdict?.isReader); // it ran in the recording or in a replay, and only read
-  const part = level < LEVELS.event ? look.part : isIdle ? IDLE : look.comesAgain ? HARMLESS : look.part;
+  const part = level < LEVELS.event ? look.part : isIdle ? IDLE : look.link === 'click' ? LINKS : look.comesAgain ? HARMLESS : look.part;
   const isUsuallyNone = part === IDLE || part === HARMLESS || part === APART;
   return level === LEVELS.same && !isUsuallyNone ? SAME : part;
 }

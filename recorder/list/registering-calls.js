@@ -63,7 +63,7 @@ function alsoByCall(own, others) {
 
 /**
  * A line of handlers that one call registers: it is shown by the one that was replayed, else by one that changed something, if that is of the same rank. Called by
- * listing.js.
+ * grouping.js.
  * @param {import('./listing.js').Line} told
  * @param {(one: import('./listing.js').Listed) => string} rankOf
  * @param {(one: import('./listing.js').Listed) => boolean} isReplayed

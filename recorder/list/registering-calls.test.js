@@ -49,30 +49,44 @@ test('all that a library registers for one call is one entry, with what the user
   const listing = new Listing([problems], null);
   const [entry, ...rest] = headsOf(listing);
   assert.deepStrictEqual(rest, []);
-  assert.strictEqual(entry.sentence, 'Until its handler is registered, a click at a "Start" only follows the link');
-  assert.deepStrictEqual(entry.sides.map(({ place, also }) => [place, also]), [['app.js:1:12 (via jquery-ui.js:1:1)', ''], ['page.html:1:1', '(also mouseover, mouseout, click at button "Save": registered by the same call)']]);
-  assert.match(entry.more, /^and 3 more races in 4 problems$/);
-  assert.strictEqual(listing.fixOf(listing.lines[0]), 'make this call right after the element, its libraries before it, or hide the element until then', 'of one problem');
-  assert.deepStrictEqual(entry.details.find(([label]) => label === 'fix'), ['fix', 'make this call right after the last element that it needs, its libraries before it, or hide the elements until then']);
+  assert.strictEqual(entry.sentence, 'A click at button "Save" is lost until its handler is registered');
+  assert.deepStrictEqual(entry.sides.map(({ place, also }) => [place, also]), [['app.js:1:12 (via jquery-ui.js:1:1)', ''], ['page.html:2:1', '(also click at link "Start", mouseover at link "Start", mouseout at link "Start": registered by the same call)']]);
+  assert.strictEqual(entry.more, 'in all, 4 problems: 4 races');
+  assert.strictEqual(listing.fixOf(listing.lines[0]), 'make the call of line 1 right after the element, its libraries before it, or disable the element until then', 'of one problem');
+  assert.deepStrictEqual(entry.details.find(([label]) => label === 'fix'), ['fix', 'make the call of line 1 right after the last element that it needs, its libraries before it, or hide the elements until then']);
   assert.strictEqual(linesOf(listing).filter((line) => /for races\.known/.test(line)).length, 1);
 });
 
 test('code of the page that registers handlers at one place: one entry for each target', async () => {
   const listing = new Listing([await problemsOf(() => [1, 1, 1], false)], null);
   assert.deepStrictEqual(headsOf(listing).map(({ sides, count }) => [sides[1].what, sides[1].also, count]), [
-    ['a "Start"', '(also mouseover, mouseout: registered by the same call)', 2], ['button "Save"', '', 0],
+    ['button "Save"', '', 0], ['link "Start"', '(also mouseover, mouseout: registered by the same call)', 2],
   ]);
+});
+
+test('a click at a link, which works without its handler, is in a section of its own after what is lost', async () => {
+  const listing = new Listing([await problemsOf(() => [1, 1, 1], false)], null);
+  const [, link] = headsOf(listing);
+  assert.strictEqual(link.sentence, 'Until its handler is registered, a click at link "Start" only follows the link to #start');
+  assert.match(link.details.find(([label]) => label === 'fix')?.[1] || '', /; none if the link leads to the same content$/);
+  assert.deepStrictEqual(listing.told().map(({ line }) => listing.partOf(line)), ['loses what a user does', 'links that work without their handler']);
+  const { line } = listing.told()[1];
+  const partAfter = (/** @type {string} */ kind) => {
+    listing.setVerdicts(0, [{ race: line.first + 1, verdict: 'turned', words: '', effect: 'a lost act', differences: [{ kind: 'event' }, { kind }] }]);
+    return listing.partOf(line);
+  };
+  assert.deepStrictEqual([partAfter('hash'), partAfter('text')], ['links that work without their handler', 'loses what a user does']);
 });
 
 test('other places, other calls: an event that comes again is in a section of its own then', async () => {
   const listing = new Listing([await problemsOf((k) => [1, 1, k + 1], true)], null);
   const all = listing.told().map(({ line }) => [listing.partOf(line), listing.fixOf(line)]);
-  assert.deepStrictEqual(all.map(([part]) => part), ['loses what a user does', 'loses what a user does', 'often harmless', 'often harmless']);
+  assert.deepStrictEqual(all.map(([part]) => part), ['loses what a user does', 'links that work without their handler', 'often harmless', 'often harmless']);
   const again = 'usually none: the pointer comes again; to lose no event, register it after the element';
   assert.deepStrictEqual(all.map(([, fix]) => fix === again), [false, false, true, true]);
   const [, , { line }] = listing.told();
   listing.setVerdicts(0, [{ race: line.first + 1, verdict: 'turned', words: '', effect: 'a lost act', differences: [{ kind: 'text' }] }]);
-  assert.deepStrictEqual([listing.partOf(line), /^make this call/.test(listing.fixOf(line))], ['loses what a user does', true], 'a replay found more than the lost event');
+  assert.deepStrictEqual([listing.partOf(line), /^make the call of line 1 /.test(listing.fixOf(line))], ['loses what a user does', true], 'a replay found more than the lost event');
 });
 
 test('an entry is shown by the handler that was replayed, also if others come before it then', async () => {
@@ -96,5 +110,5 @@ test('names stay, and with a file of known races each problem has its line', asy
 test('a list of loads has the same entry', async () => {
   const facts = new LoadRuns(false).factsOf(await problemsOf(() => [1, 1, 12], true));
   const listing = new LoadsListing([new LoadRuns(false).take(structuredClone(facts))], null, {}, ['1.html']);
-  assert.deepStrictEqual(headsOf(listing).map(({ sides }) => sides[1].also), ['(also mouseover, mouseout, click at button "Save": registered by the same call)']);
+  assert.deepStrictEqual(headsOf(listing).map(({ sides }) => sides[1].also), ['(also click at link "Start", mouseover at link "Start", mouseout at link "Start": registered by the same call)']);
 });

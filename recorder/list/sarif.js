@@ -40,8 +40,8 @@ const SAYS = {
 
 /** @param {LookKey} look */
 const idOf = (look) => `race/${LOOKS[look].name.replace(/ /g, '-')}`;
-/** @param {{part: string}} look */
-const levelOf = ({ part }) => LEVELS[part] || 'note';
+/** @param {{part: string, link?: string}} look  a link works without its handler */
+const levelOf = ({ part, link }) => (link === 'click' ? 'warning' : LEVELS[part] || 'note');
 
 /** @param {string} text */
 const capital = (text) => text.slice(0, 1).toUpperCase() + text.slice(1);
@@ -130,6 +130,7 @@ function invocationsOf({ runs }) {
 }
 
 /**
+ * The list as SARIF: a rule for each pattern, a result for each problem.
  * Called by outputs.js.
  * @param {Listing} listing
  * @param {SarifFacts} facts

@@ -82,8 +82,14 @@ test('an entry says that a handler changed nothing only if that holds for all el
   assert.match(mixed.sides[1].also, /^\(also click at a#go1: registered by the same call\)$/);
   const [unchanged] = await entriesOf([[1, 'click', READS], [2, 'dblclick', READS]]);
   assert.strictEqual(detailOf(unchanged, 'recorded'), 'the handler was there, and changed nothing that is recorded');
-  const [ranked] = await entriesOf([[1, 'click', READS], [2, 'keydown', WRITES]]);
+  const [ranked] = await entriesOf([[3, 'click', READS], [4, 'keydown', WRITES]]);
   assert.deepStrictEqual([ranked.sides[1].verb, detailOf(ranked, 'recorded')], ['click at', 'the handler was there'], 'a click comes before a key');
+});
+
+test('a call that registers handlers of links only is shown by the click, of which the link works', async () => {
+  const entries = async (/** @type {number} */ target) => (await entriesOf([[1, 'mousedown', READS], [2, 'click', WRITES], [target, 'mouseup', READS]])).map(({ sentence, part }) => [sentence, part]);
+  assert.deepStrictEqual(await entries(1), [['Until its handler is registered, a click at a#go2 only follows the link to #two', 'links that work without their handler']]);
+  assert.deepStrictEqual((await entries(3)).map(([, part]) => part), ['loses what a user does'], 'a button is no link');
 });
 
 test('of a problem of two elements that shows which changed something', async () => {
@@ -91,17 +97,17 @@ test('of a problem of two elements that shows which changed something', async ()
     const told = await entriesOf([[1, 'click', first], [2, 'click', second]], '');
     return told.map((entry) => [entry.sides[1].what, entry.sides[1].also, entry.more, detailOf(entry, 'recorded')]);
   };
-  assert.deepStrictEqual(await recordedOf(READS, WRITES), [['a "Two"', '(also "One")', 'and 1 more race', 'the handler was there']]);
-  assert.deepStrictEqual(await recordedOf(READS, READS), [['a "One"', '(also "Two")', 'and 1 more race', 'the handler was there, and changed nothing that is recorded']]);
+  assert.deepStrictEqual(await recordedOf(READS, WRITES), [['link "Two"', '(also "One")', 'and 1 more race', 'the handler was there']]);
+  assert.deepStrictEqual(await recordedOf(READS, READS), [['link "One"', '(also "Two")', 'and 1 more race', 'the handler was there, and changed nothing that is recorded']]);
 });
 
 test('the change for a problem of several elements is after the last one', async () => {
   const fixOf = async (/** @type {[target: number, type: string, does: string][]} */ events, id = '') => detailOf((await entriesOf(events, id))[0], 'fix');
-  const call = 'make this call right after the last element that it needs, its libraries before it';
+  const call = 'make the call of line 1 right after the last element that it needs, its libraries before it';
   assert.strictEqual(await fixOf([[3, 'click', WRITES], [4, 'click', WRITES]]), `${call}, or disable the elements until then`);
-  assert.strictEqual(await fixOf([[1, 'click', WRITES], [2, 'click', WRITES]]), `${call}, or hide the elements until then`);
+  assert.strictEqual(await fixOf([[1, 'click', WRITES], [2, 'click', WRITES]]), `${call}, or hide the elements until then; none if the links lead to the same content`);
   assert.strictEqual(await fixOf([[3, 'click', WRITES], [2, 'dblclick', WRITES]], 'go'), `${call}, or hide the elements until then`, 'a link cannot be disabled');
-  assert.strictEqual(await fixOf([[3, 'click', WRITES], [3, 'dblclick', WRITES]], 'go'), 'make this call right after the element, its libraries before it, or disable the element until then');
+  assert.strictEqual(await fixOf([[3, 'click', WRITES], [3, 'dblclick', WRITES]], 'go'), 'make the call of line 1 right after the element, its libraries before it, or disable the element until then');
 });
 
 test('two sides of one act of a user are not told as two acts', async () => {

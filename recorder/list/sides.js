@@ -7,6 +7,7 @@ const { shown } = require('../common/shown.js');
 const { Callbacks } = require('./callbacks.js');
 const { ElementWords } = require('./element-words.js');
 const { fixOf } = require('./fixes.js');
+const { orderOf, writtenOf } = require('./other-order.js');
 const { EVENTS, isInLibraries, lookUpOf, repliesOf } = require('./race-facts.js');
 const { callOf, wayOf } = require('./registering-calls.js');
 const { isRemoval } = require('./patterns/removals.js');
@@ -24,8 +25,9 @@ const { sentenceOf } = require('./sentences.js');
  * @typedef {{verb: string, what: string, place: string, actor: string, event: string, act: string, at: Place|null, own: Place|null}} Side
  */
 /**
- * The sentence without its place, that place, the two sides, the call that registers a late handler, and a usual change.
- * @typedef {{sentence: string, place: string, sides: [Side, Side], call: string, fix: string}} Told
+ * The sentence without its place, that place, the two sides, the call that registers a late handler and the script or callback that does (else ''), which order
+ * the recording had and what the other one does, and a usual change.
+ * @typedef {{sentence: string, place: string, sides: [Side, Side], call: string, registrar: string, recorded: string, turned: string, fix: string}} Told
  */
 
 const NAME = /^[\w$.]+$/;
@@ -209,15 +211,42 @@ class Sides {
     const { kind } = this.words.location(race.location);
     const first = this.leading(race, look);
     const sides = this.apart(race, first);
-    const at = sides[0].own || sides[1].own || sides[0].at || sides[1].at;
+    const event = lookUpOf(this, race);
+    const at = sides[0].own || event.script?.place || sides[1].own || sides[0].at || sides[1].at;
     const thing = kind === 'handler' ? this.thing(race.location) : marked(this.thing(race.location));
     const subjects = this.callbacks.subjects(race.actions[first], race.actions[1 - first]);
-    const event = lookUpOf(this, race);
     const replies = look === 'replies' ? repliesOf(this, race) : undefined;
     const ended = look === 'ended' ? this.problems.ended.inWords(race, this.callbacks, (line) => this.place(this.words.placeOfLine(line), false)) : null;
     const ofOneAct = this.problems.userActs.ofOneAct(race.actions);
-    const facts = { sides, subjects, thing, ofOneAct, field: this.field(race.location), modes: race.modes, kind, isReplaced: this.problems.isReplaced(race), otherwise: event.otherwise, replies, ended };
-    return { sentence: sentenceOf(look, facts), place: at ? this.place(at, false) : this.page(), sides, call: callOf(this.words, race), fix: fixOf(look, { kind, isOfUser: !!sides[0].act, modes: race.modes, isOfOneAct: !!ofOneAct, isInLibraries: isInLibraries(this, race), replace: replies?.replace, ...event }) };
+    const isReplaced = this.problems.isReplaced(race);
+    const facts = { sides, subjects, thing, ofOneAct, field: this.field(race.location), modes: race.modes, kind, isReplaced, otherwise: event.otherwise, replies, ended };
+    const order = orderOf(this, race, look, first, facts);
+    if (look === 'other') this.addWritten(sides, race, first);
+    const use = { kind, isOfUser: !!sides[0].act, modes: race.modes, isOfOneAct: !!ofOneAct, isInLibraries: isInLibraries(this, race), replace: replies?.replace, change: order.change, line: sides[0].own?.[1], ...event, script: event.script?.file };
+    return {
+      sentence: sentenceOf(look, facts), place: at ? this.place(at, false) : this.page(), sides, recorded: order.recorded, turned: order.turned, fix: fixOf(look, use),
+      call: callOf(this.words, race), registrar: look === 'late' || look === 'missed' ? this.registrarOf(race.actions[first]) : '',
+    };
+  }
+
+  /**
+   * Adds what the sides write, to the names of what they write.
+   * @param {[Side, Side]} sides @param {Race} race @param {number} first the side of the race that is shown first
+   */
+  addWritten(sides, race, first) {
+    sides.forEach((side, k) => {
+      const text = marked(side.what).startsWith('`') ? writtenOf(this, race, k === 0 ? first : 1 - first) : '';
+      if (text) side.what += ` = ${text}`;
+    });
+  }
+
+  /**
+   * What registers a handler: the script or the callback, and its action.
+   * @param {number} action
+   */
+  registrarOf(action) {
+    const number = this.firstOf(action);
+    return `${this.words.actions.list[number].words[0] === 'exec' ? 'script' : 'callback'} ${number}`;
   }
 
   /**

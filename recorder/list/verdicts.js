@@ -5,14 +5,15 @@
 /** @typedef {'differs'|'others'|'not'|'same'} Kind */
 
 /**
- * What a replay found of a race: only er_page and er_replay know whether a difference comes from another race.
+ * What a replay found of a race: only er_page and er_replay know whether a difference comes from another race. Called by
+ * list/json.js and list/sarif.js.
  * @param {Pick<Verdict, 'kind'|'verdict'|'effect'>} verdict
  * @returns {Kind}
  */
 const kindOf = ({ kind, verdict, effect }) => kind || (verdict !== 'turned' ? 'not' : effect ? 'differs' : 'same');
 
 /**
- * How many races there are of each kind, in words: `1 differs, 2 only by another race, 1 without a visible difference`. Called by replay-command.js.
+ * How many races there are of each kind, in words: `1 differs, 2 only by another race, 1 without a visible difference`. Called by replay-results.js.
  * @param {Kind[]} kinds
  * @param {string} [note] of those that differ
  */

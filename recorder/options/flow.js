@@ -141,6 +141,7 @@ function addStep(flow, given, from) {
 const leadsOn = ({ given }) => !!given && Array.isArray(given.assertedEvents) && given.assertedEvents.some((one) => one?.type === 'navigation');
 
 /**
+ * Reads the file of a user flow, as the browser's recorder writes it, and checks all of it before anything is recorded.
  * Called by recording/options.js.
  * @param {string} name of the option
  * @param {string} file

@@ -23,6 +23,7 @@ class UsageFault extends Error {}
 const LIKE_OPTION = /^-\D/;
 
 /**
+ * The value of an option: after `=`, or the next argument, if that is none like an option.
  * @param {{name: string, rawName: string, value?: string, inlineValue?: boolean}} token
  * @param {Option<any>} option of any command
  * @returns {string} the value, '' of a flag

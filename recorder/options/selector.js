@@ -27,6 +27,7 @@ function patternOf(source, flags) {
 }
 
 /**
+ * A part by visible text: "in quotes" is the whole text, /pattern/ a pattern, else a part of it.
  * @param {string} value
  * @returns {Part}
  */
@@ -57,6 +58,7 @@ function rolePart(value) {
 }
 
 /**
+ * One part of a selector: by its engine (`text=..`), or by its look, as `//` of XPath; else CSS.
  * @param {string} said
  * @returns {Part}
  */
@@ -104,6 +106,7 @@ function whereOf(said) {
 // ---- of the Recorder panel
 
 /**
+ * One part of a selector as the browser's recorder of user flows writes it (`aria/Name[role="button"]`, `text/..`, `xpath/..`, `pierce/..`, else CSS).
  * @param {string} said
  * @returns {Part}
  */

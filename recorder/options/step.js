@@ -1,5 +1,5 @@
 'use strict';
-// The steps of --do, as `click:SELECTOR`: read and checked before anything is recorded.
+// The steps of --do, as `click:SELECTOR`: read and checked before anything is recorded. A wrong step is a UsageFault, which prints all forms.
 
 const { UsageFault } = require('./parse.js');
 const { whereOf } = require('./selector.js');
@@ -34,6 +34,7 @@ function withText(rest) {
 }
 
 /**
+ * What follows the kind of a step: a selector and a text, milliseconds, a key, or a selector in quotes; null if it is none.
  * @param {Step['kind']} kind
  * @param {string} rest
  */
@@ -61,6 +62,7 @@ function placeOf(name, kind, target) {
 }
 
 /**
+ * Reads one step. Throws a UsageFault with all forms if it has none of them.
  * Called by recording/options.js.
  * @param {string} name of the option
  * @param {string} said

@@ -12,6 +12,7 @@ const { UsageFault } = require('./parse.js');
  */
 
 /**
+ * Whether a value of the file is an object that has these members as texts.
  * @param {unknown} one
  * @param {string[]} members that are texts
  */
@@ -55,6 +56,7 @@ function parseStorageState(name, text) {
 }
 
 /**
+ * Reads a storage state as Playwright writes it: cookies, and `localStorage` by origin.
  * Called by recording/options.js.
  * @param {string} name of the option
  * @param {string} file

@@ -12,6 +12,7 @@ const HEADER = /^([\w!#$%&'*+.^`|~-]+):[ \t]*([^\0\r\n]*)$/;
 const COOKIE = /^([\w!#$%&'*+.^`|~-]+)=([^\0-\x20;\x7f]*)$/;
 
 /**
+ * A whole number of at most nine digits. All functions of this file throw a UsageFault with the name of the option.
  * @param {string} name of the option
  * @param {string} value
  * @param {number} [least]
@@ -25,6 +26,7 @@ function wholeNumber(name, value, least = 0, most = 999999999) {
 }
 
 /**
+ * Any name of a file that is not empty.
  * @param {string} name
  * @param {string} value
  */
@@ -34,6 +36,7 @@ function fileName(name, value) {
 }
 
 /**
+ * The command of a test suite, which a shell reads.
  * @param {string} name
  * @param {string} value
  */
@@ -67,6 +70,7 @@ function pattern(name, value) {
 }
 
 /**
+ * When the list has colors.
  * @param {string} name
  * @param {string} value
  * @returns {'auto'|'always'|'never'}
@@ -77,6 +81,7 @@ function colors(name, value) {
 }
 
 /**
+ * What is recorded of scripts.
  * @param {string} name
  * @param {string} value
  * @returns {'globals'|'objects'}
@@ -87,6 +92,7 @@ function depth(name, value) {
 }
 
 /**
+ * A port of this machine; others are refused.
  * @param {string} name
  * @param {string} value
  */
@@ -97,6 +103,7 @@ function endpoint(name, value) {
 }
 
 /**
+ * A header of HTTP.
  * @param {string} name
  * @param {string} value
  * @returns {[name: string, value: string]}
@@ -108,6 +115,7 @@ function header(name, value) {
 }
 
 /**
+ * A user and a password; only the password may contain a colon.
  * @param {string} name
  * @param {string} value
  */
@@ -117,7 +125,10 @@ function credentials(name, value) {
   return { user: value.slice(0, at), password: value.slice(at + 1) };
 }
 
-/** @param {string} value */
+/**
+ * Whether a text is an address of HTTP or HTTPS.
+ * @param {string} value
+ */
 function isWebAddress(value) {
   try {
     return /^https?:$/.test(new URL(value).protocol);
@@ -127,6 +138,7 @@ function isWebAddress(value) {
 }
 
 /**
+ * A cookie without attributes: it is the page's.
  * @param {string} name
  * @param {string} value
  * @returns {[name: string, value: string]}
@@ -138,6 +150,7 @@ function cookie(name, value) {
 }
 
 /**
+ * An address of HTTP or HTTPS.
  * @param {string} name
  * @param {string} value
  */
@@ -147,6 +160,7 @@ function webAddress(name, value) {
 }
 
 /**
+ * A size of the window, in CSS pixels.
  * @param {string} name
  * @param {string} value
  */
@@ -157,6 +171,7 @@ function viewport(name, value) {
 }
 
 /**
+ * The text that the browser sends as its name.
  * @param {string} name
  * @param {string} value
  */

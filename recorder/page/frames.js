@@ -18,7 +18,10 @@ function recordingOfParent(window) {
   }
 }
 
-/** @param {import('./types').PageWindow} window */
+/**
+ * The element of a frame in the page around it; null if it is of another origin.
+ * @param {import('./types').PageWindow} window
+ */
 function frameOf(window) {
   try {
     return window.frameElement;

@@ -205,7 +205,7 @@ class Page {
 
   /**
    * Makes a plain element of the document for something that is no element, as promises (tasks/jobs.js). It is no target of the page, so
-   * `elements.markDeclared` knows nothing of it.
+   * `elements.markDeclared` knows nothing of it. Called by page/tasks/jobs.js.
    * @param {string} what
    * @returns {number} its number
    */

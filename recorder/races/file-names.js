@@ -7,6 +7,7 @@ const LONGEST_PART = 40;
 const INDEX = /^index\.(ts|js|mjs|tsx|jsx)$/;
 
 /**
+ * An address in parts, without its fragment.
  * @param {string} address
  * @returns {{parts: string[], query: string[]}} the parts of the path, and those of the query
  */

@@ -71,7 +71,7 @@ class Keys extends NamedRun {
   }
 
   /**
-   * An access where it is done: the write of a field in the event of a key is that of the `input` event that follows.
+   * An access where it is done: the write of a field in the event of a key is that of the `input` event that follows. Called by list/lasting.js.
    * @template {{location: string, action: number, line: number}} T
    * @param {T} access
    * @returns {T}

@@ -5,6 +5,7 @@
 const { eachAtOnce } = require('../common/at-once.js');
 const { answersAtOnce, runProgram } = require('./program.js');
 
+/** Processes of the analyzer at once, and queries for one view: each is a call of the analyzer. */
 const AT_ONCE = 4;
 const MOST_QUERIES = 300;
 /** A view waits at most this many milliseconds for links. */
@@ -42,7 +43,12 @@ class Paths {
     return !!this.reached.get(from)?.has(to);
   }
 
-  /** @param {number} from @param {number} to @param {[from: number, to: number, rule: number][]} steps */
+  /**
+   * Notes that an action reaches another one, by these steps of the analyzer's path: each step is a link, once.
+   * @param {number} from
+   * @param {number} to
+   * @param {[from: number, to: number, rule: number][]} steps
+   */
   add(from, to, steps) {
     const reached = this.reached.get(from) || new Set();
     this.reached.set(from, reached.add(to));

@@ -77,6 +77,8 @@ class NamedRun {
   }
 
   /**
+   * An element's name in any run: its tag, id, field, source, document and place, and who made it; with a count, if several have that. Elements that stand for
+   * an event have none.
    * @param {string[]} words
    * @param {number} line
    * @param {number} action
@@ -113,7 +115,7 @@ class NamedRun {
 
   /**
    * The place of a line, or of a thing, in a name: if it came by way of a library that is a part of a file, that of the library. Names are older than the
-   * search for such libraries, and stay.
+   * search for such libraries, and stay. Called by list/lasting.js and keys.js.
    * @param {number} line
    * @param {{place?: Place, way?: Place}} facts
    */

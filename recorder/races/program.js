@@ -1,6 +1,6 @@
 'use strict';
-// Calls the analyzer (built, or unproved.js): queries about a trace. Nothing else here decides what races. It is spawned as a child process. If it crashes or
-// cannot be run, its status and its words are the answer.
+// Calls the analyzer (built, or unproved.js): queries about a trace. Nothing else here decides what races. It is spawned as a child process. If it crashes, is
+// killed, gives no answer or cannot be run, its status and its words are the answer.
 
 const { spawn, spawnSync } = require('node:child_process');
 const fs = require('node:fs');

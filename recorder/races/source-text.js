@@ -37,7 +37,7 @@ class SourceText {
   }
 
   /**
-   * The lines of a file by their numbers, from 1.
+   * The lines of a file by their numbers, from 1. Called by list/without-handler.js, list/patterns/assignments.js and view/excerpts.js.
    * @param {number} file
    */
   linesOf(file) {
@@ -50,7 +50,7 @@ class SourceText {
   }
 
   /**
-   * Whether the line of a place is too long to be its text.
+   * Whether the line of a place is too long to be its text. Called by list/sides.js and thing-words.js.
    * @param {Place} place
    */
   isLong([file, line]) {

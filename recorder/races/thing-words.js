@@ -36,7 +36,7 @@ class ThingWords {
   // ---- places
 
   /**
-   * The short name of a file.
+   * The short name of a file. Called by list/sides.js and view/excerpts.js.
    * @param {number} file
    */
   fileName(file) {
@@ -111,7 +111,7 @@ class ThingWords {
   }
 
   /**
-   * The place of an element's tag, or of the code that made it.
+   * The place of an element's tag, or of the code that made it. Called by list/element-words.js.
    * @param {string|number} number
    * @returns {Place|null}
    */
@@ -125,7 +125,7 @@ class ThingWords {
   }
 
   /**
-   * The document of a frame; '' for the page's own.
+   * The document of a frame; '' for the page's own. Called by words.js.
    * @param {string} number
    */
   ofFrame(number) {
@@ -148,7 +148,7 @@ class ThingWords {
   }
 
   /**
-   * A script's `src`, which may be relative: the name of its file if that is one of the recording, else its end.
+   * A script's `src`, which may be relative: the name of its file if that is one of the recording, else its end. Called by list/element-words.js.
    * @param {string} source
    */
   nameOfSource(source) {
@@ -158,7 +158,7 @@ class ThingWords {
   }
 
   /**
-   * A name as the page wrote it, from the form of the trace.
+   * A name as the page wrote it, from the form of the trace. Called by list/callbacks.js, list/sides.js and words.js.
    * @param {string} name
    */
   unescape(name) {

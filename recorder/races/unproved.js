@@ -54,7 +54,10 @@ class Unproved {
     return this.queryAll(traces.flatMap((trace) => REPORTS.map((words) => ({ words, trace }))));
   }
 
-  /** @param {Query[]} queries */
+  /**
+   * Queries the program that is not proved for several answers in one call, and keeps them.
+   * @param {Query[]} queries
+   */
   async queryAll(queries) {
     const keys = queries.map(keyOf);
     const answers = await this.call(queries.map(({ words, trace }) => ({ words, trace: path.resolve(trace) })));

@@ -251,7 +251,10 @@ class Words extends ThingWords {
     return nths;
   }
 
-  /** @param {Place} place */
+  /**
+   * The function of a place, as the end of a text about it.
+   * @param {Place} place
+   */
   inFunction(place) {
     const name = this.sources.functionAt(place);
     return name ? `, ${name}` : '';

@@ -54,7 +54,10 @@ class Acts {
     return [...early, ...late].map((act, k) => ({ ...act, number: numberOfAct(k) }));
   }
 
-  /** @returns {{early: Act[], late: Act[]}} */
+  /**
+   * The acts before the page is at rest (early) and after it; a replay may have them in another order.
+   * @returns {{early: Act[], late: Act[]}}
+   */
   planned() {
     const acts = this.inOrder();
     const both = { early: acts.filter((act) => act.isEarly), late: acts.filter((act) => !act.isEarly) };
@@ -128,6 +131,7 @@ class Acts {
   }
 
   /**
+   * Why an act found nothing to act at, in words.
    * @param {import('../browser/user.js').User} user
    * @param {Act} act
    */
@@ -150,7 +154,10 @@ class Acts {
     return outcome;
   }
 
-  /** @param {number} number */
+  /**
+   * Called before each letter that is typed. A replay can hold a letter back, as any act.
+   * @param {number} number
+   */
   async startLetter(number) {
     const { steering } = this.session;
     const letter = { number, kind: /** @type {const} */ ('type') };
@@ -158,7 +165,10 @@ class Acts {
     await this.announce(number);
   }
 
-  /** @param {number} number of the act that comes, or 0 */
+  /**
+   * Says to the page which act comes, so that its events have a cause. The page may be too busy to answer; the act is done anyway.
+   * @param {number} number of the act that comes, or 0
+   */
   async announce(number) {
     const { options, ownNames } = this.session;
     if (options.isRaw) return;

@@ -9,6 +9,7 @@ const { STATUS } = require('../common/status.js');
 const { sleep } = require('../common/time.js');
 const { Session, RecordingFault } = require('./session.js');
 
+/** In milliseconds. */
 const POLL = 50;
 /** Is in the tab while a recorder is attached to it: true once it waits for the next page, so a driver can load one. */
 const MARK = '__erAttached';
@@ -108,6 +109,7 @@ class AttachedRecorder extends Session {
     while (isDue() && !this.isEnded && Date.now() < this.until) await sleep(POLL);
   }
 
+  /** Ends once, and only if the other program has not closed the page. */
   async finish() {
     if (this.isFinished) return;
     this.isFinished = true;
@@ -123,6 +125,7 @@ class AttachedRecorder extends Session {
     if (this.browser instanceof AttachedChromium && !this.browser.isGone) this.browser.close();
   }
 
+  /** Lines "not recorded" of a browser that another program drives. */
   losses() {
     const windows = this.windows ? [`windows that the page opened, left to the driver: ${this.windows}`] : [];
     const left = this.isLeft ? ['the page that came in the place of this one: a recording has one page'] : [];

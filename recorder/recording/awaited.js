@@ -78,6 +78,7 @@ class Awaited {
   }
 
   /**
+   * A fact can say that something comes without a note of its own: an idle callback, an object or a request that can report at any time.
    * @param {Name} name
    * @param {number} now
    */

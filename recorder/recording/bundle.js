@@ -9,6 +9,7 @@
 const fs = require('node:fs');
 const path = require('node:path');
 
+/** The only forms of modules in page/: README.md, "The page's half". */
 const IMPORT = /^import (\{[^{}]*\}) from '(\.[^']*\.js)';$/gm;
 const EXPORT = /^export (\{[^{}]*\});\s*$/m;
 const OTHER = /^(?:import|export)\b.*/m;

@@ -20,7 +20,10 @@ function checkOptions(options) {
   if (isReplayed && isNeverReplayed) throw new UsageFault('--no-replay cannot be combined with --replay or --race');
 }
 
-/** @param {CommandOptions} options */
+/**
+ * Many pages are recorded once each, several at the same time: without what needs a profile, a window or several runs.
+ * @param {CommandOptions} options
+ */
 function checkMany({ list, sitemap, jobs, isFresh, runs, isReplayed, isLive, userDataDir, isHeaded }) {
   const isOfMany = list || sitemap;
   if (!isOfMany && (jobs || isFresh)) throw new UsageFault('--jobs and --fresh require --list FILE or --sitemap URL');

@@ -18,6 +18,7 @@ const { shown, withoutCommands } = require('../common/shown.js');
  * @typedef {Position & {text?: string, exception?: RemoteValue, stackTrace?: {callFrames: Position[]}}} ExceptionDetails
  */
 
+/** Characters of a message of the page's console. */
 const LONGEST_CONSOLE = 300;
 /** Stands for a mark if the page's own code is not known. */
 const HIDDEN = '…';

@@ -91,11 +91,12 @@ const { checkOptions } = require('./check-options.js');
 /** @typedef {RecordingOptions & ListOptions & ReplayOptions} CommandOptions */
 /** @typedef {import('../options/parse.js').OptionTable<CommandOptions>} Table */
 
+/** More are mostly a slip: each run opens a browser. */
 const MOST_RUNS = 100;
 const MOST_JOBS = 100;
 
 /**
- * The options of a call without arguments.
+ * The options of a call without arguments (defaults): `time` is in seconds, `--time` limits how long a page is recorded at most.
  * @returns {CommandOptions}
  */
 function defaults() {
@@ -110,6 +111,7 @@ function defaults() {
 }
 
 /**
+ * The options that a flow sets: its steps, its page and its size. `--viewport` counts before that of the flow.
  * @param {CommandOptions} options
  * @param {import('../options/flow.js').Flow} flow
  * @param {string} file
@@ -242,7 +244,10 @@ function withoutUser(given, options) {
   return address;
 }
 
-/** @param {string} address */
+/**
+ * The host of an address; empty if it has none, as a file.
+ * @param {string} address
+ */
 function hostOf(address) {
   try {
     return new URL(address).hostname;
@@ -252,6 +257,7 @@ function hostOf(address) {
 }
 
 /**
+ * Reads arguments by a table, keeps their secrets out of all output from here on, and refuses options that contradict each other.
  * @param {string[]} args
  * @param {Table} table
  * @returns {{options: CommandOptions, positionals: string[], isHelp: boolean}}

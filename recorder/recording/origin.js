@@ -89,6 +89,7 @@ function originOf(recorder, options, traceFile, text) {
 }
 
 /**
+ * The text of a file of an earlier recording. Throws an OriginFault, whose message the command prints.
  * @param {string} file
  * @returns {string}
  */

@@ -18,6 +18,7 @@ const { Rest } = require('./rest.js');
 const { signIn } = require('./signed-in.js');
 const { Session, RecordingFault, GRACE } = require('./session.js');
 
+/** In milliseconds. */
 const POLL = 50;
 const LOAD_TIME = `(() => {
   const [navigation] = performance.getEntriesByType('navigation');
@@ -119,7 +120,10 @@ class Recorder extends Session {
     }
   }
 
-  /** @param {Chromium} browser */
+  /**
+   * Starts the browser, and uses the time until its first answer for marking scripts ahead.
+   * @param {Chromium} browser
+   */
   async startBrowser(browser) {
     const { viewport, ignoresCertificateErrors, userDataDir, isHeaded } = this.options;
     browser.start({ ...viewport || WINDOW, ignoresCertificateErrors, userDataDir, isHeaded });
@@ -135,6 +139,7 @@ class Recorder extends Session {
     else warmUp();
   }
 
+  /** Prepares the tab before the page comes: the script of the recorder, and what signs in. */
   async prepareTab() {
     const holds = /** @type {import('../page/types').Hold[]|undefined} */ (this.steering?.forPage());
     await this.prepare({ holds, evaluate: (facts) => this.openTab().evaluate(facts) });
@@ -147,18 +152,19 @@ class Recorder extends Session {
     else if (this.browser instanceof Chromium) await this.browser.close();
   }
 
-  /** The browser, if it stayed after the recording. */
+  /** The browser, if it stayed after the recording. Called by replay-race.js. */
   runningBrowser() {
     return this.browser instanceof Chromium ? this.browser : null;
   }
 
-  /** Closes the browser if it stayed after the recording. */
+  /** Closes the browser if it stayed after the recording. Called by page-races.js and replay-race.js. */
   async closeKeptBrowser() {
     await this.runningBrowser()?.close();
   }
 
   // ---- the page
 
+  /** The page comes, and the user acts. `isUsed` is false if the time was over before that. */
   async loadAndUse() {
     await this.load();
     this.isUsed = await this.useAndWait();

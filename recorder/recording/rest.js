@@ -5,6 +5,7 @@
 const { sleep, within } = require('../common/time.js');
 const { PLACE_AT_REST } = require('./awaited.js');
 
+/** In milliseconds. */
 const POLL = 50;
 /** Milliseconds without an open request or a new action after which a page is quiet. */
 const QUIET = 400;

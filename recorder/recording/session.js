@@ -155,7 +155,7 @@ class Session {
   }
 
   /**
-   * Runs a recording to its end. Fails with a RecordingFault; what was recorded until then is in the intake.
+   * Runs a recording to its end. Fails with a RecordingFault; what was recorded until then is in the intake. Called by attached-recorder.js and recorder.js.
    * @param {() => Promise<void>} work
    * @param {() => Promise<void>} close
    */
@@ -172,7 +172,7 @@ class Session {
   }
 
   /**
-   * A page that never ends its work answers nothing: what was recorded until its time is over is the recording.
+   * A page that never ends its work answers nothing: what was recorded until its time is over is the recording. Called by attached-recorder.js and recorder.js.
    * @param {Promise<void>} work
    */
   async withinTime(work) {
@@ -269,6 +269,7 @@ class Session {
   }
 
   /**
+   * Calls a method of the recording in the page, and waits for it at most so many milliseconds.
    * @param {'flush'|'finish'} method
    * @param {number} longest in milliseconds
    */

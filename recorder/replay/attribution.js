@@ -69,7 +69,7 @@ function sourcesOfAll(one, results) {
 }
 
 /**
- * Notes from which other races the differences of each race come. Called by replay-command.js, while races are replayed and at the end: what another race's replay
+ * Notes from which other races the differences of each race come. Called by replay-results.js, while races are replayed and at the end: what another race's replay
  * has is known only then.
  * @param {Numbered[]} all
  */

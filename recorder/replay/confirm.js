@@ -77,6 +77,7 @@ class Confirm {
     }, Math.max(LONGEST_WAIT, this.runs.longestRun));
   }
 
+  /** Starts the runs of all claims that wait, in the order of their races. */
   startWaiting() {
     clearTimeout(this.timer);
     this.timer = undefined;

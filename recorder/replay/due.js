@@ -1,6 +1,6 @@
 'use strict';
-// Looks in the log of a run for one access, or for its action without the access: what a hold waits for. The page sends its lines when a task is over, so what
-// has come is over too.
+// Looks in the log of a run for one access, or for its action without the access: what a hold waits for: whether the second access of a race has come. The page
+// sends its lines when a task is over, so what has come is over too.
 
 const { readKeys } = require('./read-run.js');
 

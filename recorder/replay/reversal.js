@@ -8,7 +8,10 @@ const { judgeWithin } = require('../races/within-limits.js');
 /** @typedef {import('./types').FurtherRun} FurtherRun */
 /** @typedef {import('./types').Reversal} Reversal */
 
-/** @param {import('./hold.js').Hold} hold */
+/**
+ * Why a hold did not reverse its race, in words.
+ * @param {import('./hold.js').Hold} hold
+ */
 function whyNot(hold) {
   if (!hold.heldAt) return 'it was not met again';
   return hold.isReached ? 'the first access came before all the same' : 'the second access did not come meanwhile';

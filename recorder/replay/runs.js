@@ -1,5 +1,5 @@
 'use strict';
-// Further runs of a recorded page, several at once. How many run concurrently, each with its timeout.
+// Further runs of a recorded page, several at once. How many run concurrently (limits of `--at-once`), each with its timeout.
 
 const fs = require('node:fs');
 const os = require('node:os');

@@ -119,7 +119,10 @@ function ofDifferences(differences, worst) {
   return `in the other order ${clause}, and ${visible ? clauseOf(visible, differences) : 'nothing else differs'}`;
 }
 
-/** @param {Result} result */
+/**
+ * The sentence of a race that turned and made no difference that a user sees.
+ * @param {Result} result
+ */
 function ofNone({ byDelay = [], unsteady = [] }) {
   if (byDelay.some(({ isSeen }) => isSeen)) return 'no visible difference, except what a delay in the recorded order does too';
   return unsteady.some(({ isSeen }) => isSeen) ? 'no visible difference, except what differs by itself' : 'no visible difference';
@@ -204,6 +207,7 @@ function ofNotTurned({ why = '', chance }) {
 }
 
 /**
+ * The sentence of a race for the list, by what its replay found.
  * Called by verdict.js.
  * @param {Result} result
  * @param {Difference|undefined} worst the worst of its own differences, if there is one
@@ -219,7 +223,8 @@ function sentenceOf(result, worst, location = '', number = 0, whereOf = () => NO
   const own = ownOf(result);
   const found = worst ? ofDifferences(own, withLabel(eventOf(own, worst, location, where.own), event)) : ofNone(result);
   const some = suspectsOf(result);
-  if (!some.length) return found;
+  const isOfEntry = where.index >= 0 && some.every((one) => whereOf(one).index === where.index);
+  if (!some.length || (worst && isOfEntry)) return found; // one change mends the entry, whichever of its races it comes from
   const others = racesInWords(some, where, whereOf);
   if (!worst) return `${found}; ${others} came in another order too`;
   return `${found}; ${result.isReader ? `${READS_ONLY}, so ` : ''}some of it may come from ${others}, which came in another order too`;

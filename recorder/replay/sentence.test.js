@@ -75,7 +75,8 @@ test('races that came in another order too are named by their places', () => {
   assert.strictEqual(one(2, 3), 'some of it may come from the race at a.js:1, which came in another order too');
   assert.strictEqual(one(2, 4), 'some of it may come from the races at a.js:1, b.js:2, which came in another order too');
   assert.strictEqual(one(2, 4, 5, 6, 7), 'some of it may come from the races at a.js:1, b.js:2, c.js:3 and 2 more places, which came in another order too');
-  assert.strictEqual(one(3), 'some of it may come from another race of this entry, which came in another order too');
+  assert.strictEqual(one(3), undefined, 'one change mends all races of an entry');
+  assert.strictEqual(sentenceOf({ verdict: 'turned', differences: [], astray: [3] }, undefined, '', 1, whereOf), 'no visible difference; another race of this entry came in another order too');
   assert.strictEqual(one(3, 99), 'some of it may come from 2 other races, which came in another order too');
 });
 

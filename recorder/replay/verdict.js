@@ -30,7 +30,7 @@ const EFFECTS = [
 const VERDICTS = { differs: 'differs', others: 'differs only by another race', not: 'could not be turned', same: 'no visible difference' };
 
 /**
- * Called by replay-command.js.
+ * The verdict in one word: `differs`, `same`, `others` (only another race made a difference), or `not` (not turned). Called by replay-results.js.
  * @param {Pick<Result, 'verdict'|'differences'>} result
  * @returns {'differs'|'others'|'same'|'not'}
  */
@@ -41,7 +41,7 @@ function verdictOf(result) {
 }
 
 /**
- * The worst effect: its name, its rank and the difference that has it; null if nothing differs. Called by replay-command.js and suite-replays.js.
+ * The worst effect: its name, its rank and the difference that has it; null if nothing differs. Called by suite-replays.js.
  * @param {Pick<Result, 'differences'>} result
  */
 function worstOf({ differences = [] }) {
@@ -50,13 +50,13 @@ function worstOf({ differences = [] }) {
 }
 
 /**
- * The worst effect of the differences that no other race makes, as far as is known. Called by replay-command.js.
+ * The worst effect of the differences that no other race makes, as far as is known. Called by replay-results.js.
  * @param {Pick<Result, 'differences'>} result
  */
 const worstOfOwn = (result) => worstOf({ differences: ownOf(result) });
 
 /**
- * Sorts races that differ before others, the worst first; then those that could not be reversed; then the harmless ones. Called by replay-command.js.
+ * Sorts races that differ before others, the worst first; then those that could not be reversed; then the harmless ones. Called by replay-results.js.
  * @param {Numbered} a
  * @param {Numbered} b
  */
@@ -67,6 +67,7 @@ function orderOfResults(a, b) {
 }
 
 /**
+ * What is said of runs in which the two came in the other order by chance.
  * @param {Result['chance']} chance
  * @param {boolean} isTurned
  */
@@ -79,7 +80,7 @@ function chanceInWords(chance, isTurned) {
 }
 
 /**
- * Called by replay-command.js.
+ * Called by replay-results.js.
  * @param {Result['group']} group
  */
 function groupInWords(group) {
@@ -140,7 +141,7 @@ function turnedInWords(result, races) {
 }
 
 /**
- * The verdict in a line. Called by replay-command.js and suite-replays.js.
+ * The verdict in a line. Called by replay-results.js and suite-replays.js.
  * @param {Result} result
  * @param {number} number of the race
  * @param {(number: number) => import('./sentence.js').Where} whereOf where the list has a race
@@ -164,7 +165,7 @@ function verdictInWords(result, number = 0, whereOf = () => NOWHERE) {
  * `unordered`.
  * `group`: the numbers of the other races of its group by how they came (`turned`, `kept`, `gone`); `astray`: other races that came in another order; `chance`:
  * the runs in which this one came in which order by itself (`kept`, `turned`), or in the other one since another race was reversed (`implied`).
- * `comparedAt`: after what a page that never rests was compared; `trace`: the trace in the other order. Called by replay-command.js.
+ * `comparedAt`: after what a page that never rests was compared; `trace`: the trace in the other order. Called by replay-results.js.
  * @param {Result} result
  * @param {Race} race
  * @param {number} number

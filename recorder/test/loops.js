@@ -24,6 +24,7 @@ const LOOPS = {
   'calls of a method': [10, 'const o = { n: 1, get2() { return this.n; } }; let sum = 0; for (let k = 0; k < N; k++) sum += o.get2(); return sum;'],
   'get and set of a map': [10, 'const m = new Map([["a", 1]]); for (let k = 0; k < N; k++) m.set("a", m.get("a") + 1); return m.get("a");'],
   'names of texts': [10, 'const texts = ["a", "bb", "ccc", "d"]; let sum = 0; for (let k = 0; k < N; k++) sum += texts[k & 3].length; return sum;'],
+  'properties of elements': [100, 'const both = [document.body, document.documentElement]; let sum = 0; for (let k = 0; k < N; k++) sum += both[k & 1].nodeType; return sum;'],
   'fresh objects': [100, 'let sum = 0; for (let k = 0; k < N; k++) { const o = { n: k }; sum += o.n; } return sum;'],
   'global variable': [10, 'for (let k = 0; k < N; k++) counted = counted + 1; return counted;'],
 };

@@ -92,6 +92,7 @@ class Places {
   }
 
   /**
+   * The index of an original file of a source map, which is added when a place first needs it.
    * @param {Source} source
    * @param {number} number of the file in the source's map
    * @returns {number} its number among the files
@@ -156,7 +157,10 @@ class Places {
  */
 const originalAddress = (source, number) => wholeAddress(source.map?.sources[number] ?? '?', source.address);
 
-/** @param {Site} site */
+/**
+ * The file to which a mark belongs: the original one, a library in a file with other code, or the script.
+ * @param {Site} site
+ */
 function addressOfSite({ source, offset }) {
   const { line, column } = source.lines.placeOf(offset);
   const original = source.map && source.map.original(line, column);

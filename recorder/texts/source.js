@@ -276,7 +276,7 @@ class OriginalFile {
   }
 
   /**
-   * Notes the name of a function at its place.
+   * Notes the name of a function at its place. Called by places.js.
    * @param {Place} place
    * @param {string} name
    */

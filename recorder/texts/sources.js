@@ -1,5 +1,6 @@
 'use strict';
-// The texts of the pages and scripts of one run: their copies, which the browser gets, and the place in the text for a position in its copy.
+// The texts of the pages and scripts of one run: their copies, which the browser gets, and the place in the text for a position in its copy. Which globals are
+// built in, and get no mark: `builtins`.
 
 const { HANDLER_NAMES } = require('../common/handler-names.js');
 const { keptMarks } = require('../instrument/kept-marks.js');
@@ -123,6 +124,7 @@ class Sources {
   }
 
   /**
+   * Adds a text that came. The texts of all runs (`root`) get it too.
    * @param {string} address
    * @param {string} text
    */

@@ -94,6 +94,7 @@ class Intake {
   }
 
   /**
+   * A line by its first letter: a fact, counts, or an entry. Whether it was taken.
    * @param {string} line
    * @returns {boolean} whether all of it was taken
    */
@@ -103,14 +104,20 @@ class Intake {
     return this.takeEntry(line);
   }
 
-  /** @param {string} json */
+  /**
+   * Takes a fact, if it is of a known kind and there are not too many.
+   * @param {string} json
+   */
   takeFact(json) {
     const fact = this.names.length < MOST_FACTS ? this.facts.read(json) : null;
     if (fact) this.names.push(fact);
     return fact !== null;
   }
 
-  /** @param {string} json */
+  /**
+   * Takes the counts of what is not recorded; later ones replace earlier ones, as the page adds up itself.
+   * @param {string} json
+   */
   takeCounts(json) {
     const counts = readCounts(json);
     this.counts = counts || this.counts;

@@ -64,7 +64,7 @@ class LineFacts {
     if (before && before !== '?') this.befores[line] = before;
   }
 
-  /** The lists of OUT.names.json. */
+  /** The lists of OUT.names.json. Called by replay/found/compare.js and names.js. */
   lists() {
     const { values, befores, counts, kept, typed } = this;
     return { values, befores, counts, kept, typed };

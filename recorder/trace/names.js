@@ -42,11 +42,7 @@ const table = () => Object.create(null);
 
 /** Made by recording/files.js, once a log is written as a trace. */
 class Names {
-  /**
-   * @param {Texts} sources
-   * @param {Fact[]} named what the page reported
-   * @param {RegExp|null} libraries the names of their files
-   */
+  /** @param {Texts} sources @param {Fact[]} named what the page reported @param {RegExp|null} libraries the names of their files */
   constructor(sources, named, libraries = null) {
     this.sources = sources;
     this.libraries = libraries;
@@ -188,6 +184,7 @@ class Names {
   }
 
   /**
+   * The place of a line, and of the number that it declares, if it does.
    * @param {number} line
    * @param {string[]} words
    * @param {Place} place
@@ -211,17 +208,14 @@ class Names {
     if (place) this.callers[line] = place;
   }
 
-  /** @param {Place} place */
-  addFunction(place) {
+  /** Looks up the name of the function at a place, once. */
+  addFunction(/** @type {Place} */ place) {
     const key = place.join(':');
     if (this.functions[key] === undefined) this.functions[key] = this.sources.functionAt(place);
   }
 
-  /**
-   * The place of the code that an action runs.
-   * @param {string[]} words
-   */
-  placeOfBegin(words) {
+  /** The place of the code that an action runs. */
+  placeOfBegin(/** @type {string[]} */ words) {
     switch (words[0]) {
       case 'timer': return this.lists.timeouts[words[1]]?.place;
       case 'tick': case 'anim': return this.lists.intervals[words[1]]?.place;
@@ -231,7 +225,10 @@ class Names {
     }
   }
 
-  /** @param {SpelledEntry} record */
+  /**
+   * The parser has made an element: no code has its place, so its tag is searched in the page, after the tag before it.
+   * @param {SpelledEntry} record
+   */
   addElementPlace({ text, place, stack }) {
     if (!text.startsWith('parse ') || this.placesOfStack(stack).own || this.resolve(place)) return;
     const [, document, element] = text.split(' ');

@@ -51,6 +51,7 @@ function notesOf(log) {
 }
 
 /**
+ * Notes that came at a point, as records: in an inline dispatch to a stand-in element.
  * @param {string} document
  * @param {string} element
  * @param {string} dispatch

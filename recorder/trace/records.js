@@ -42,6 +42,7 @@ const OF_ACTIONS = FORMS.filter(({ nesting }) => nesting !== 'note');
  */
 const RECORDS = Object.fromEntries(OF_ACTIONS.map((form) => [form.word, factsOf(form)]));
 
+/** The lanes of the picture in the view, from top to bottom. */
 const LANES = ['Parser', 'Scripts', 'Timers', 'Network', 'Loading', 'User and events', 'Handlers'];
 const BEGINS = new Set(OF_ACTIONS.map(({ word }) => word));
 const DISPATCHES = new Set(OF_ACTIONS.filter(({ word }) => RECORDS[word].isDispatch).map(({ word }) => word));

@@ -12,6 +12,7 @@ const { addressOfMap, textInAddress } = require('./map-address.js');
  * @typedef {SourceMap|IndexMap} AnyMap
  */
 
+/** The digits of a segment: Base64, the value of each is its index. */
 const DIGITS = 'ABCDEFGHIJKLMNOPQRSTUVWXYZabcdefghijklmnopqrstuvwxyz0123456789+/';
 const VALUE_OF = new Map(Array.from(DIGITS, (digit, k) => [digit, k]));
 /** A larger map is left out: with its segments it takes many times its own size. */
@@ -163,6 +164,7 @@ class IndexMap {
 }
 
 /**
+ * Whether a value is a section of an indexed map.
  * @param {unknown} given
  * @returns {given is SectionJson}
  */

@@ -26,6 +26,7 @@ const { placeNotes } = require('./spelling/notes.js');
 
 /** @typedef {import('./intake.js').Entry & {isKept?: boolean, isTyped?: boolean, why?: string}} SpelledEntry a record with what is known of it (trace/accesses.js) */
 
+/** Of the trace format (docs/format.md, "Versions"). */
 const NEWEST_VERSION = 3;
 
 /**
@@ -132,6 +133,7 @@ class Spelling {
   }
 
   /**
+   * A look at which handlers there are reads the slot of the type, and all handlers in it.
    * @param {string} element
    * @param {string} type
    * @param {boolean} isOfCapturers
@@ -145,6 +147,7 @@ class Spelling {
   }
 
   /**
+   * A timeout, or an interval that ticks once, if its delay is not compared with those of others (spelling/clocks.js).
    * @param {string} timeout
    * @param {string} delay
    */
@@ -154,6 +157,7 @@ class Spelling {
   }
 
   /**
+   * A message is posted: a record of version 3, before that a stand-in element, so that the message comes after its sender.
    * @param {string} message
    * @param {string} document
    * @param {string} standIn
@@ -180,7 +184,10 @@ class Spelling {
     this.put(`inline ${dispatch} ${standIn} message`);
   }
 
-  /** @param {string[]} words */
+  /**
+   * The end of a dispatch. That of a message of version 3 is inline in the message's action, which then goes on (`back`).
+   * @param {string[]} words
+   */
   spellClose(words) {
     this.put(words.join(' '));
     if (this.messageDispatches.has(words[1])) this.put(`back ${words[1]}`);

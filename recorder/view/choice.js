@@ -122,7 +122,10 @@ class Shown {
     return true;
   }
 
-  /** @param {Share} share */
+  /**
+   * Adds a group with its first race, if there is room for both.
+   * @param {Share} share
+   */
   addShare({ group, size, race }) {
     if (!this.addRace(race)) return false;
     const plain = { number: group + 1, race: race + 1, size, problem: this.indexOf(race) };
@@ -131,7 +134,10 @@ class Shown {
     return true;
   }
 
-  /** @param {number} race */
+  /**
+   * Puts a race into the model, as long as there is room for it. Whether it is there then.
+   * @param {number} race
+   */
   addRace(race) {
     if (this.races.has(race)) return true;
     if (this.model.left <= 0) return false;

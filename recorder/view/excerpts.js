@@ -4,6 +4,7 @@
 const { withoutCommands } = require('../common/shown.js');
 
 const LINES_AROUND = 2; // client/source.js draws as many
+/** Characters of a line that are shown: a longer (minified) one is cut around the column. */
 const LONGEST_LINE = 240;
 
 /** @typedef {import('../list/types').Place} Place */
@@ -64,6 +65,7 @@ class Excerpts {
   }
 
   /**
+   * Where the word of a place is in its line as it is shown: a long line is cut around it.
    * @param {string|undefined} text
    * @param {number} column
    */

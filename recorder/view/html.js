@@ -8,6 +8,7 @@ const { escapeText } = require('../common/shown.js');
 const { bundled } = require('../recording/bundle.js');
 const { librariesInWords } = require('../trace/accesses.js');
 const { escapeJson, hashSource } = require('./embedded.js');
+const { entriesOf } = require('./lines.js');
 const { quoted } = require('./quoted.js');
 
 /** @typedef {import('./types').ViewModel} ViewModel */
@@ -46,8 +47,8 @@ function leftOut({ leftOut: all = [] }) {
  */
 function notShown({ totals, listed, races, report }) {
   if (races.length === totals.races) return '';
-  const all = totals.problems + (totals.known || 0);
-  const ofProblems = listed.length < all ? `, in ${listed.length} of ${all} problems` : '';
+  const all = entriesOf(totals) + (totals.known || 0);
+  const ofProblems = listed.length < all ? `, in ${listed.length} of ${all} ${totals.entries === undefined ? 'problems' : 'entries'}` : '';
   return `<p class="left-out">This page shows ${races.length} of ${totals.races} races${ofProblems}, so that a browser can open it: at most 100 of a group, the worst problems first. `
     + `All are in the report, <code>${escapeText(report)}</code>, and in words in the list of <code>--json</code>.</p>\n`;
 }

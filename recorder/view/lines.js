@@ -20,14 +20,22 @@ function toldOf(listing, problem, others) {
 }
 
 /**
- * How many lines there are, and how many of what is known. Called by model.js.
- * @param {{isKnown: boolean}[]} lines
- * @returns {{problems: number, known?: number}}
+ * How many problems there are, in how many lines, if these are fewer, and how many known ones. Called by model.js.
+ * @param {{isKnown: boolean, problems: unknown[]}[]} lines
+ * @returns {{problems: number, entries?: number, known?: number}}
  */
 function countsOf(lines) {
-  const known = lines.filter(({ isKnown }) => isKnown).length;
-  return { problems: lines.length - known, ...(known ? { known } : {}) };
+  const fresh = lines.filter(({ isKnown }) => !isKnown);
+  const known = lines.length - fresh.length;
+  const problems = fresh.reduce((sum, line) => sum + line.problems.length, 0);
+  return { problems, ...(problems > fresh.length ? { entries: fresh.length } : {}), ...(known ? { known } : {}) };
 }
+
+/**
+ * The lines of what is not known. Called by html.js.
+ * @param {{problems: number, entries?: number}} counts
+ */
+const entriesOf = ({ problems, entries = problems }) => entries;
 
 /**
  * The lines of which the view has a problem. Called by model.js.
@@ -43,7 +51,7 @@ function linesOf(listing, problems) {
 
 /**
  * A model with the lines of the list as that is after replays, which move problems and add what they found. The list can be one of several runs; the model is
- * that of the first. Called by replay-command.js.
+ * that of the first. Called by replay-results.js.
  * @template {Pick<import('./types').ViewModel, 'totals'|'problems'|'listed'>} M
  * @param {M} model
  * @param {Listing} listing
@@ -51,13 +59,15 @@ function linesOf(listing, problems) {
  */
 function arranged(model, listing) {
   const listed = linesOf(listing, model.problems);
-  const notShown = model.totals.problems - countsOf(model.listed).problems;
-  const { problems, ...known } = countsOf(listed);
+  const shown = countsOf(model.listed);
+  const counts = countsOf(listed);
+  const problems = counts.problems + model.totals.problems - shown.problems;
+  const entries = entriesOf(counts) + entriesOf(model.totals) - entriesOf(shown);
   const { groups, races } = model.totals;
   const byName = new Map(listing.problems.map((one) => [one.name, one]));
   const othersOf = new Map(listing.told().map(({ line, others }) => [line.name, others]));
   const detailed = model.problems.map((one) => ({ ...one, details: detailsOf(listing, byName.get(one.name), othersOf.get(one.name) || [], one) }));
-  return { ...model, problems: detailed, listed, totals: { problems: problems + notShown, ...known, groups, races } };
+  return { ...model, problems: detailed, listed, totals: { problems, ...(entries < problems ? { entries } : {}), ...(counts.known ? { known: counts.known } : {}), groups, races } };
 }
 
 /**
@@ -72,4 +82,4 @@ function detailsOf(listing, problem, others, { details }) {
   return problem ? [...details.filter(isOfPlace), ...listing.entries.details(problem, others).filter((one) => !isOfPlace(one))] : details;
 }
 
-module.exports = { arranged, countsOf, linesOf, toldOf };
+module.exports = { arranged, countsOf, entriesOf, linesOf, toldOf };

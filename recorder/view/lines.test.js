@@ -8,7 +8,7 @@ const { Listing } = require('../list/listing.js');
 const { linesOf } = require('../list/outputs.js');
 const { Problems } = require('../list/problems.js');
 const { judgeText, tracesWithRaces } = require('../test/list-support.js');
-const { arranged } = require('./lines.js');
+const { arranged, entriesOf } = require('./lines.js');
 const { Model } = require('./model.js');
 
 /** @typedef {{part: string, name: string, races: number}} Line */
@@ -26,10 +26,10 @@ function printed(listing) {
   const lines = [];
   for (const line of text) {
     part = /^-- (.*)$/.exec(line)?.[1] ?? part;
-    const [, name, more = '0'] = /^ {4}(\w+) \(for races\.known\)(?:, and (\d+) more races?(?: in \d+ problems)?)?$/.exec(line) || [];
-    if (name) lines.push({ part, name, races: 1 + Number(more) });
+    const [, name, more = '0', all] = /^ {4}(\w+) \(for races\.known\)(?:, and (\d+) more races?|; in all, \d+ problems: (\d+) races)?$/.exec(line) || [];
+    if (name) lines.push({ part, name, races: all ? Number(all) : 1 + Number(more) });
   }
-  return { lines, known: text.flatMap((line) => /^ {2}(\w+) /.exec(line)?.[1] ?? []), counts: /^\d+ problems \(/.test(text[0]) ? text.slice(0, text.findIndex((line) => line.endsWith(')')) + 1).map((line) => line.trim()).join(' ') : '' };
+  return { lines, known: text.flatMap((line) => /^ {2}(\w+) /.exec(line)?.[1] ?? []), counts: /^\d+ problems (?:in \d+ entr\w+ )?\(/.test(text[0]) ? text.slice(0, text.findIndex((line) => line.endsWith(')')) + 1).map((line) => line.trim()).join(' ') : '' };
 }
 
 /**
@@ -53,9 +53,9 @@ function check(listing, model) {
   const view = shown(model);
   assert.deepStrictEqual(view.lines, lines);
   assert.deepStrictEqual(view.known.map(({ name }) => name), known);
-  assert.strictEqual(model.totals.problems, lines.length);
+  assert.strictEqual(entriesOf(model.totals), lines.length);
   const parts = [...new Set(lines.map(({ part }) => part))].map((part) => `${part}: ${lines.filter((line) => line.part === part).length}`);
-  if (counts) assert.strictEqual(counts, `${model.totals.problems} problems (${parts.join('; ')})`);
+  if (counts) assert.strictEqual(counts, `${model.totals.problems} problems${model.totals.entries === undefined ? '' : ` in ${lines.length} entr${lines.length === 1 ? 'y' : 'ies'}`} (${parts.join('; ')})`);
   assert.strictEqual([...view.lines, ...view.known].reduce((sum, { races }) => sum + races, 0), report.races.length);
   assert.ok(model.races.length < 100 ? model.races.every(([, , , , , , , , , problem]) => model.problems[problem]) : true);
 }

@@ -86,7 +86,7 @@ export interface ViewModel {
   page: string;
   counts: [name: string, number: number][];
   /** How many lines of the list, known ones apart, groups and races there are, shown or not. */
-  totals: { problems: number; known?: number; groups: number; races: number };
+  totals: { problems: number; entries?: number; known?: number; groups: number; races: number };
   lanes: string[];
   kinds: string[];
   origins: string[];

@@ -1,6 +1,6 @@
 'use strict';
 // Functions that run in the page: what a user finds at a field, and how far it scrolls. Each is sent as its text, with the functions of selectors.js. A text
-// field gets the focus and its text is selected, an option of a `<select>` is found.
+// field gets the focus and its text is selected, an option of a `<select>` (a drop-down list) is found and chosen.
 /* eslint-env browser */
 
 const { findAll, isShown } = require('./selectors.js');

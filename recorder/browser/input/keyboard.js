@@ -18,6 +18,7 @@ const MODIFIERS = new Map([
   ['Shift', { bit: 8, key: { key: 'Shift', code: 'ShiftLeft', keyCode: 16, location: 1 } }],
 ]);
 
+/** The bits of both keys (1 and 8) in the `modifiers` of the protocol. */
 const ALT_AND_SHIFT = 9;
 
 /**
@@ -43,6 +44,7 @@ const PUNCTUATION = [
   ['`~', 'Backquote', 192], ['-_', 'Minus', 189], ['=+', 'Equal', 187], ['[{', 'BracketLeft', 219], [']}', 'BracketRight', 221], ['\\|', 'Backslash', 220],
   [';:', 'Semicolon', 186], ['\'"', 'Quote', 222], [',<', 'Comma', 188], ['.>', 'Period', 190], ['/?', 'Slash', 191],
 ];
+/** What Shift makes of 0 to 9 on a US keyboard. */
 const ABOVE_DIGITS = ')!@#$%^&*(';
 const LETTERS = 'abcdefghijklmnopqrstuvwxyz';
 /** @type {[characters: string, code: string, keyCode: number][]} */

@@ -1,6 +1,6 @@
 'use strict';
-// Functions that run in the page: which element a selector means. They are sent together, as texts (`IN_PAGE`), so each uses only names of this file that
-// are sent too. By CSS, by visible text, by role and accessible name, by XPath.
+// Functions that run in the page: which element a selector means. They are sent together, as texts (`IN_PAGE`), so each uses only names of this file that are
+// sent too. By CSS, by visible text, by role and accessible name, by XPath; in shadow roots too.
 /* eslint-env browser */
 
 /**
@@ -62,6 +62,7 @@ function fitsText(text, wanted, fit) {
 }
 
 /**
+ * Whether a user sees an element at all: it has a size, and is not hidden.
  * Called by fields.js.
  * @param {Element} element
  */
@@ -102,6 +103,7 @@ function nameOf(element) {
 }
 
 /**
+ * Whether an element has an ARIA role, given or by its tag.
  * @param {Element} element
  * @param {string} role
  */
@@ -133,6 +135,7 @@ function byText(root, wanted, fit) {
 }
 
 /**
+ * The elements of a role and an accessible name, first those that a user sees.
  * @param {Root} root
  * @param {Extract<Part, {by: 'role'}>} part
  */
@@ -152,6 +155,7 @@ function byPath(root, path) {
 }
 
 /**
+ * What one part of a selector finds below a root. CSS that finds nothing is tried in shadow roots.
  * @param {Root} root
  * @param {Part} part
  * @returns {Element[]}

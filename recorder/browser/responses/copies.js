@@ -15,12 +15,15 @@ const { valueOf } = require('./paused.js');
  * @typedef {import('./paused.js').Texts} Texts
  */
 
+/** By the content type of a response: what becomes an instrumented copy. */
 const PAGE_TYPE = /^text\/html\b/i;
 const XML_PAGE_TYPE = /^(application\/xhtml\+xml|image\/svg\+xml|(text|application)\/xml)\b/i;
 const SCRIPT_TYPE = /javascript|ecmascript|^text\/plain\b|^application\/octet-stream\b/i;
+/** Headers that are about the bytes of the original. */
 const DROPPED_HEADERS = /^(content-length|content-encoding|transfer-encoding|content-type|sourcemap|x-sourcemap)$/i;
 const POLICY_HEADER = /^content-security-policy(-report-only)?$/i;
 const TRUSTED_TYPES = 'trusted types of content policies';
+/** Characters of a reason in a line "not recorded". */
 const LONGEST_REASON = 100;
 
 /** @param {number|undefined} status */
@@ -86,7 +89,10 @@ class Copies {
     return this.sources !== null && hasBody(status) && this.isText(event, type);
   }
 
-  /** @param {Paused} event the page, or what comes before it */
+  /**
+   * Called for the first page that comes: what it needs of the browser is read before its copy is made.
+   * @param {Paused} event the page, or what comes before it
+   */
   async beginPage(event) {
     if (!this.hasPageBegun) await this.beforePage(event.request.url);
     this.hasPageBegun = true;
@@ -151,6 +157,7 @@ class Copies {
   }
 
   /**
+   * A header of a content policy for the copy of a page. Trusted types are dropped and counted, since marks are no such texts.
    * @param {Texts} sources
    * @param {Paused} event
    * @param {Header} header
@@ -192,6 +199,7 @@ function withoutIntegrity(sources, headers) {
 }
 
 /**
+ * A file that cannot be marked goes on as it came, and is counted with the reason.
  * Called by browser/responses.js.
  * @param {Texts} sources
  * @param {unknown} fault

@@ -13,6 +13,7 @@ const { requestText } = require('../changing.js');
  * @typedef {{take: (answer: Answer) => void, start: number, answer: Omit<Answer, 'body'>|null}} Awaited a request whose answer is to be kept
  */
 
+/** Other addresses (`data:`, `blob:`) come from no server, so nothing is kept of them. */
 const OF_SERVER = /^https?:/i;
 
 /** Takes note of the answers of servers. Made by browser/responses.js. */
@@ -41,6 +42,7 @@ class KeepAnswers {
   }
 
   /**
+   * What takes the answer to a request: once it is kept, a replay does not lack it.
    * @param {string} networkId
    * @param {(answer: Answer) => boolean} keep
    */
@@ -50,7 +52,10 @@ class KeepAnswers {
     };
   }
 
-  /** @param {Paused} event */
+  /**
+   * Notes the head of a response that is awaited; its body comes later. It takes no response from the others in the chain.
+   * @param {Paused} event
+   */
   passResponse(event) {
     const awaited = this.awaited.get(event.networkId || '');
     const { responseStatusCode: status = 0, responseHeaders: headers = [] } = event;
@@ -61,7 +66,8 @@ class KeepAnswers {
   }
 
   /**
-   * The bytes of a page or a script, before it gets its marks (`passResponse` in copies.js). `takeBody` then finds nothing that is awaited.
+   * The bytes of a page or a script, before it gets its marks (`passResponse` in copies.js). `takeBody` then finds nothing that is awaited. Called by
+   * copies.js.
    * @param {Paused} event
    * @param {Buffer} body
    */
@@ -101,7 +107,10 @@ class AnswerAgain {
     this.folder = folder;
   }
 
-  /** @param {Paused} event */
+  /**
+   * In a replay: answers from memory, after the time that the server took in the recorded run. False if the memory has no answer, so that the request is sent.
+   * @param {Paused} event
+   */
   async passRequest(event) {
     const answer = this.folder?.has(event.request.url) ? null : this.answers.take(event);
     if (!answer) return false;

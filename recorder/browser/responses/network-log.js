@@ -1,5 +1,6 @@
 'use strict';
-// What the page requests, and which requests have not ended. Requests in flight, and long polls, which are not waited for.
+// What the page requests, and which requests have not ended. Requests in flight, and long polls, which are not waited for. The icon of a page (favicon) does
+// not count.
 
 const { requestText } = require('../changing.js');
 const { isHold } = require('./hold-scripts.js');
@@ -36,7 +37,10 @@ class NetworkLog {
     this.asked = [];
   }
 
-  /** @param {import('../tab.js').Tab} tab */
+  /**
+   * Listens to what the browser says of requests. The body of a `fetch` is waited for as long as parts of it come.
+   * @param {import('../tab.js').Tab} tab
+   */
   async start(tab) {
     tab.on('Network.requestWillBeSent', (params) => this.note(/** @type {Request} */ (params)));
     tab.on('Network.loadingFinished', ({ requestId }) => this.close(requestId));
@@ -68,6 +72,7 @@ class NetworkLog {
   }
 
   /**
+   * There is news of a request: it is alive, so its patience starts again.
    * @param {string} requestId of which there is news
    * @param {boolean} [isBody] whether parts of its body come
    */

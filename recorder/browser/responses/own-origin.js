@@ -34,7 +34,10 @@ class OwnOrigin {
     this.answered = new Set();
   }
 
-  /** @param {Paused} event */
+  /**
+   * The first request of the page decides which origin is its own.
+   * @param {Paused} event
+   */
   passRequest(event) {
     if (this.origin === null && this.steps.isOfPage(event)) this.origin = originOf(event.request.url);
     return false;
@@ -46,7 +49,8 @@ class OwnOrigin {
   }
 
   /**
-   * What of a request changes as it goes on: the user's headers in place of its own of these names; another origin, as after a redirect, gets none.
+   * What of a request changes as it goes on: the user's headers in place of its own of these names; another origin, as after a redirect, gets none. Called by
+   * browser/responses.js and driven/flow-recorder.js.
    * @param {Paused} event
    * @returns {{headers?: import('./paused.js').Header[]}}
    */
@@ -70,7 +74,7 @@ class OwnOrigin {
   }
 
   /**
-   * Answers a server that wants a user's name. Without an answer the request would stay open.
+   * Answers a server that wants a user's name. Without an answer the request would stay open. Called by browser/responses.js and driven/flow-recorder.js.
    * @param {Challenge} challenge
    */
   async answerChallenge({ requestId, request, authChallenge }) {

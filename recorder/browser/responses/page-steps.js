@@ -1,6 +1,6 @@
 'use strict';
 // Steps to another page: the page is recorded that was asked for, also in a replay. If it navigates away, the request is refused, or `leaves` is called.
-// Redirects, submitted forms (as of a login), links, `location = ..` and reloads.
+// Redirects, submitted forms (as of a login), links, `location = ..`, a `<meta>` refresh and reloads.
 
 /** @typedef {import('./paused.js').Paused} Paused */
 
@@ -27,7 +27,7 @@ class PageSteps {
   }
 
   /**
-   * The answer to a request is another address, which the browser requests next.
+   * The answer to a request is another address, which the browser requests next. Called by folder-answers.js.
    * @param {Paused} event
    */
   expectRedirect(event) {

@@ -143,6 +143,7 @@ class CallMarks extends ValueMarks {
   // ---- what the arguments of a call are read for
 
   /**
+   * The arguments of a call: some functions of JavaScript take whole objects or keys of them (`hasOwnProperty`, `Object.keys`, `call`).
    * @param {CallExpression} node
    * @param {MemberExpression} callee
    * @param {Scope} scope

@@ -61,6 +61,7 @@ class ClosureMarks extends Marks {
   }
 
   /**
+   * A block that declares captured variables gets the number of its scope as it starts.
    * @param {Scope} scope
    * @param {Node} node
    * @param {number} offset after the brace
@@ -159,6 +160,7 @@ class ClosureMarks extends Marks {
     return this.comesLate(owner.closure, init) && this.variables.isRecorded(owner, name);
   }
 
+  /** A declaration with a value: a write of each captured variable that is reported, after its value is there. */
   visitInitializer(/** @type {Initialized} */ { id, init }, /** @type {Scope} */ scope, /** @type {DeclarationKind} */ kind) {
     const names = namesOfPattern(id);
     const reported = names.filter((name) => this.isReported({ name, start: id.start }, init, scope, kind));
@@ -170,6 +172,7 @@ class ClosureMarks extends Marks {
   }
 
   /**
+   * The first value of one variable: a write if it is reported, and the value of before if it is a `var`, which can have one.
    * @param {Identifier} id
    * @param {Expression} init
    * @param {Scope} scope
@@ -183,6 +186,7 @@ class ClosureMarks extends Marks {
   }
 
   /**
+   * The calls after a pattern, for each variable that it declares.
    * @param {string[]} names
    * @param {string[]} reported
    * @param {number} start
@@ -207,6 +211,7 @@ class ClosureMarks extends Marks {
   }
 
   /**
+   * A captured variable is assigned: the write is reported with the new value. `a ||= b` reads it first, and writes it only if `b` runs.
    * @param {AssignmentExpression} node
    * @param {Identifier} left
    * @param {Scope} scope

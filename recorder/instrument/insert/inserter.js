@@ -111,7 +111,10 @@ class Inserter {
     if (this.code.charCodeAt(node.end - 1) !== SEMICOLON && !this.isLastOfBlock(node.end)) this.insert(node.end, ';');
   }
 
-  /** @param {number} offset */
+  /**
+   * Whether only blanks are between an offset and the end of its block: then no semicolon is needed there.
+   * @param {number} offset
+   */
   isLastOfBlock(offset) {
     let at = offset;
     while (this.code.charCodeAt(at) <= BLANK_CODE) at++;

@@ -187,7 +187,7 @@ class Marks extends StatementMarks {
     super.AssignmentExpression(node, scope);
   }
 
-  /** Whether the write may come in another action than the read, or not at all. */
+  /** Whether the write may come in another action than the read, or not at all. Called by closure-marks.js, value-marks.js and window-marks.js. */
   isApart(/** @type {AssignmentExpression} */ { operator, right }) {
     return LOGICAL.test(operator) || (operator !== '=' && this.waits && mayWait(right));
   }
@@ -267,7 +267,7 @@ class Marks extends StatementMarks {
     close();
   }
 
-  /** Code that is made of a text has no marks: that there is such code is reported. */
+  /** Code that is made of a text has no marks: that there is such code is reported. Called by member-marks.js. */
   markMaking(/** @type {CallExpression|NewExpression} */ { callee, arguments: args }, /** @type {Scope} */ scope) {
     const last = args[args.length - 1];
     return isMaking(callee, scope) && last && last.type !== 'SpreadElement' ? this.inserter.wrap(last, '__er.made(', ')') : nothing;
@@ -281,7 +281,7 @@ class Marks extends StatementMarks {
   }
 
   /**
-   * `w.postMessage(x)` becomes `w.postMessage(call(x))`: the last argument says which window's code posts, directly before the call.
+   * `w.postMessage(x)` becomes `w.postMessage(call(x))`: the last argument says which window's code posts, directly before the call. Called by call-marks.js.
    * @param {CallExpression} node
    */
   markPosting({ callee, arguments: args }) {

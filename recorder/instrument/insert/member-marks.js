@@ -79,7 +79,7 @@ function keepsWhatIsKept(node) {
 /** Extended by value-marks.js. */
 class MemberMarks extends ClosureMarks {
   /**
-   * Whether evaluating an expression twice is as good as once.
+   * Whether evaluating an expression twice is as good as once. Called by call-marks.js and value-marks.js.
    * @param {Node} node
    * @param {Scope} scope
    */
@@ -97,7 +97,7 @@ class MemberMarks extends ClosureMarks {
     return this.siteAt(node, node);
   }
 
-  /** A site, with the text of the object that is met there. */
+  /** A site, with the text of the object that is met there. Called by call-marks.js. */
   siteAt(/** @type {Span} */ { start }, /** @type {Span} */ object) {
     return this.site(start, { object: [object.start, object.end] });
   }
@@ -132,7 +132,7 @@ class MemberMarks extends ClosureMarks {
   }
 
   /**
-   * `a.b` becomes `call(a,"b",site).b`.
+   * `a.b` becomes `call(a,"b",site).b`. Called by call-marks.js.
    * @param {MemberExpression} node
    * @param {Scope} scope
    * @param {string} helper
@@ -160,7 +160,7 @@ class MemberMarks extends ClosureMarks {
   }
 
   /**
-   * Visits an expression whose value a mark after it uses; returns how this mark reads it.
+   * Visits an expression whose value a mark after it uses; returns how this mark reads it. Called by value-marks.js.
    * @param {Node} node
    * @param {Scope} scope
    */
@@ -174,7 +174,7 @@ class MemberMarks extends ClosureMarks {
   }
 
   /**
-   * Visits an expression and puts it between two texts.
+   * Visits an expression and puts it between two texts. Called by call-marks.js and value-marks.js.
    * @param {Node} node
    * @param {Scope} scope
    * @param {string} before
@@ -199,13 +199,13 @@ class MemberMarks extends ClosureMarks {
     if (node.computed) this.visitWrapped(node.property, scope, `__er.${helper}(this,`, `,${this.siteOf(node)})`);
   }
 
-  /** The call for a read of a named `super.x`. */
+  /** The call for a read of a named `super.x`. Called by call-marks.js. */
   readOfSuper(/** @type {MemberExpression} */ member) {
     return `__er.sp(this,${knownKey(member)},${this.siteOf(member)})`;
   }
 
   /**
-   * Puts the call for an update of `super.x` before an expression; nothing if the member is none such.
+   * Puts the call for an update of `super.x` before an expression; nothing if the member is none such. Called by value-marks.js.
    * @param {Node} node
    * @param {Node} member
    */

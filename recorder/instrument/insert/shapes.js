@@ -18,6 +18,7 @@ const { quoteList } = require('../marks/quote.js');
 const isTakingPattern = (pattern) => pattern.type === 'ObjectPattern' || pattern.type === 'ArrayPattern';
 
 /**
+ * The shape of an item of an array pattern.
  * @param {Pattern|null} element
  * @returns {ShapeList|string|number|null}
  */
@@ -27,6 +28,7 @@ function shapeOfItem(element) {
 }
 
 /**
+ * What is taken of the value that a target gets: a list if the target is a pattern; 0 if nothing more.
  * @param {Pattern} target
  * @returns {ShapeList|number}
  */
@@ -36,6 +38,7 @@ function shapeOfTarget(target) {
 }
 
 /**
+ * A property of an object pattern: its name and its shape. A computed name is left out.
  * @param {import('../syntax/types').PatternProperty|import('../syntax/types').RestElement} property
  * @returns {ShapeList}
  */
@@ -47,6 +50,7 @@ function shapeOfProperty(property) {
 }
 
 /**
+ * A pattern as a list, as the helper of the page gets it (page/objects/patterns.js).
  * @param {TakingPattern} pattern
  * @returns {ShapeList}
  */

@@ -1,6 +1,6 @@
 'use strict';
 // Marks the writes of properties that come with a value, and what patterns and loops take of their objects. `a.b = value`, destructuring assignments, `for (..
-// of ..)` and `for (.. in ..)`.
+// of ..)`, `for await` and `for (.. in ..)`.
 
 const { mayRun } = require('../syntax/children.js');
 const { addNamesOfCode } = require('../syntax/names.js');
@@ -143,6 +143,9 @@ class ValueMarks extends MemberMarks {
     return !ofParameters.includes('arguments') && !(this.inserter.textOf(body).includes('arguments') && declaresInBody(node, 'arguments'));
   }
 
+  /**
+   * Code for the start of a function whose parameters are patterns: what these take of the arguments are reads. Without `arguments` (arrow functions) nothing.
+   */
   readsOfParameters(/** @type {FunctionNode} */ node) {
     const patterns = patternsOf(node.params);
     if (!patterns.length || !this.hasArguments(node)) return '';

@@ -1,5 +1,6 @@
 'use strict';
-// Marks the members whose object may be the window: `window.a` is the global variable `a`. `self`, `globalThis`, `top` and others can be it too.
+// Marks the members whose object may be the window: `window.a` is the global variable `a`. `self`, `globalThis`, `top` and others can be it too. All that
+// `--depth globals` marks of members: objects and closures are left out then.
 
 const { isFunction } = require('../syntax/children.js');
 const { quote } = require('../marks/quote.js');

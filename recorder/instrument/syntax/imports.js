@@ -24,7 +24,10 @@ const WHOLE = '*';
  */
 const nameOf = (node) => (node.type === 'Identifier' ? node.name : String(node.value));
 
-/** @param {import('./types').ImportedName} specifier */
+/**
+ * The name that the other module has for an import.
+ * @param {import('./types').ImportedName} specifier
+ */
 function nameInOther(specifier) {
   if (specifier.type === 'ImportNamespaceSpecifier') return WHOLE;
   return specifier.type === 'ImportDefaultSpecifier' ? 'default' : nameOf(specifier.imported);
@@ -46,7 +49,10 @@ function importsOf({ body }) {
   return imports;
 }
 
-/** @param {import('./types').VariableDeclaration|import('./types').FunctionDeclaration|import('./types').ClassDeclaration} declaration */
+/**
+ * The names that an exported declaration declares.
+ * @param {import('./types').VariableDeclaration|import('./types').FunctionDeclaration|import('./types').ClassDeclaration} declaration
+ */
 function namesOfDeclaration(declaration) {
   if (declaration.type !== 'VariableDeclaration') return declaration.id ? [declaration.id.name] : [];
   /** @type {Set<string>} */
@@ -56,6 +62,7 @@ function namesOfDeclaration(declaration) {
 }
 
 /**
+ * What `export {..}` and `export ..` add to the exports of a module: its own variables, and names that it only passes on from another module.
  * @param {import('./types').ExportNamedDeclaration} statement
  * @param {Map<string, Imported>} imports
  * @param {Exported} exported gets what it exports

@@ -51,6 +51,7 @@ function nodesAt(program, offset) {
 }
 
 /**
+ * Where a pattern ends that fits exactly at an offset; -1 if it does not. The pattern is sticky.
  * @param {RegExp} pattern that has the flag y
  * @param {string} text
  * @param {number} offset

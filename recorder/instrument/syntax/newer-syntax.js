@@ -108,6 +108,7 @@ const newerSyntax = (Base) => class extends Base {
   // ---- `using`: acorn reads it as `let`
 
   /**
+   * acorn calls this for each statement: `using` at the top of a script is a name.
    * @param {unknown} context
    * @param {boolean} topLevel
    * @param {unknown} exports
@@ -117,14 +118,20 @@ const newerSyntax = (Base) => class extends Base {
     return super.parseStatement(context, topLevel, exports);
   }
 
-  /** @param {unknown} [context] null at a statement that may declare; undefined in the head of a loop */
+  /**
+   * acorn asks this where a declaration may start: `using` is read as `let`.
+   * @param {unknown} [context] null at a statement that may declare; undefined in the head of a loop
+   */
   isLet(context) {
     const isHead = context === undefined;
     this.using = context || (!isHead && this.isTopOfScript) ? null : this.usingHere(isHead);
     return this.using !== null || super.isLet(context);
   }
 
-  /** @param {boolean} isHead */
+  /**
+   * Whether a declaration by `using` or `await using` starts here; null if these words are names.
+   * @param {boolean} isHead
+   */
   usingHere(isHead) {
     if (this.isContextual('using')) return declaresAt(this.input, this.end, isHead) ? 'using' : null;
     if (!this.isContextual('await') || !this.canAwait || nameAfter(this.input, this.end) !== 'using') return null;
@@ -132,6 +139,7 @@ const newerSyntax = (Base) => class extends Base {
   }
 
   /**
+   * acorn calls this for a declaration. `using` was read as `let` before, so that acorn takes it, and becomes what it is.
    * @param {AcornNode} node
    * @param {boolean} isFor
    * @param {string} kind

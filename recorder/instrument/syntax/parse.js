@@ -53,6 +53,7 @@ function faultOf(error, code) {
 }
 
 /**
+ * The tree of a text, with what its kind of code may contain: a handler may return, a module has imports.
  * Called by instrument/instrument.js.
  * @param {string} code
  * @param {import('./types').KindOfCode} kind

@@ -50,7 +50,7 @@ class Scope {
   }
 
   /**
-   * The scope of a block: its parent's if the block declares nothing for itself.
+   * The scope of a block: its parent's if the block declares nothing for itself. Called by instrument/walk/walker.js.
    * @param {Scope} parent
    * @param {Statement[]} statements
    */
@@ -62,7 +62,7 @@ class Scope {
   }
 
   /**
-   * The scope of a function, with its parameters and what its code declares.
+   * The scope of a function, with its parameters and what its code declares. Called by instrument/walk/walker.js.
    * @param {Scope} parent
    * @param {FunctionNode} node
    */
@@ -79,7 +79,7 @@ class Scope {
   }
 
   /**
-   * The scope of code that runs apart from the code around it.
+   * The scope of code that runs apart from the code around it. Called by instrument/walk/walker.js.
    * @param {Scope} parent
    * @param {Iterable<string>} [names]
    */
@@ -90,7 +90,7 @@ class Scope {
   }
 
   /**
-   * The scope of a static block of a class.
+   * The scope of a static block of a class. Called by instrument/walk/walker.js.
    * @param {Scope} parent
    * @param {Statement[]} body
    */

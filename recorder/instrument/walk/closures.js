@@ -48,7 +48,7 @@ class ClosureVariables extends Variables {
   }
 
   /**
-   * Whether the accesses to a name of a scope are marked.
+   * Whether the accesses to a name of a scope are marked. Called by instrument/insert/closure-marks.js.
    * @param {Scope|null} owner
    * @param {string} name
    * @returns {owner is ClosureScope}
@@ -58,7 +58,7 @@ class ClosureVariables extends Variables {
   }
 
   /**
-   * Whether a name is a marked variable of a scope.
+   * Whether a name is a marked variable of a scope. Called by instrument/insert/closure-marks.js.
    * @param {Scope} scope
    * @param {string} name
    */
@@ -90,7 +90,7 @@ class ClosureVariables extends Variables {
   }
 
   /**
-   * The call for a first value, which only a whole recording (`--keep`) has.
+   * The call for a first value, which only a whole recording (`--keep`) has. Called by instrument/insert/closure-marks.js.
    * @param {string} name
    * @param {Scope} scope
    * @param {number} offset

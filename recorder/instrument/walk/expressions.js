@@ -42,7 +42,7 @@ class ExpressionWalker {
   }
 
   /**
-   * Visits the nodes of a list, in which some can be missing.
+   * Visits the nodes of a list, in which some can be missing. Called by instrument/insert/call-marks.js, instrument/insert/member-marks.js and walker.js.
    * @param {readonly (Node|null|undefined)[]} nodes
    * @param {Scope} scope
    */
@@ -122,6 +122,7 @@ class ExpressionWalker {
     this.visitChildren(node, scope, isEval ? callee : undefined);
   }
 
+  /** `typeof a` and `delete a.b` are apart; `delete a` of a variable does nothing in most scripts, so it has no mark. */
   UnaryExpression(/** @type {UnaryExpression} */ node, /** @type {Scope} */ scope) {
     const { argument, operator } = node;
     if (argument.type === 'Identifier' && operator === 'typeof') this.visitTypeof(node, argument, scope);
@@ -143,6 +144,7 @@ class ExpressionWalker {
 
   // ---- assignments and declarations
 
+  /** Declarations: only those with a value write. */
   visitDeclarations(/** @type {VariableDeclaration} */ node, /** @type {Scope} */ scope) {
     for (const declarator of node.declarations) {
       this.visitPattern(declarator.id, scope);
@@ -183,7 +185,8 @@ class ExpressionWalker {
   }
 
   /**
-   * A pattern that is assigned to: its names stay as they are; defaults, computed keys and members are visited.
+   * A pattern that is assigned to: its names stay as they are; defaults, computed keys and members are visited. Called by instrument/insert/marks.js,
+   * instrument/insert/value-marks.js and walker.js.
    * @param {Pattern|null} pattern
    * @param {Scope} scope
    */

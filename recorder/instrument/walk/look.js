@@ -62,6 +62,7 @@ class Look extends Walker {
 
   // ---- `this`
 
+  /** A function with a `this` of its own; arrow functions have that of the code around them. */
   visitFunction(/** @type {FunctionNode} */ node, /** @type {Scope} */ scope) {
     const outer = this.ofThis;
     if (node.type !== 'ArrowFunctionExpression') this.ofThis = node;

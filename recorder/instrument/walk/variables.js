@@ -16,6 +16,7 @@ const { WHOLE } = require('../syntax/imports.js');
  * @property {import('../syntax/imports').Exported} exported
  */
 
+/** Names that are no variables of the page, though they look like globals. */
 const NEVER_RECORDED = new Set(['undefined', 'arguments', 'eval', 'NaN', 'Infinity', '__er']);
 
 /**

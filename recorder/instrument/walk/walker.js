@@ -73,7 +73,7 @@ class Walker extends ExpressionWalker {
   }
 
   /**
-   * Whether a declared variable may get its first value more than once.
+   * Whether a declared variable may get its first value more than once. Called by instrument/insert/closure-marks.js and look.js.
    * @param {Closure} closure
    * @param {string} name
    * @param {number} start
@@ -88,7 +88,7 @@ class Walker extends ExpressionWalker {
   }
 
   /**
-   * Whether other code may have run between the start of the scope and the first value of a variable.
+   * Whether other code may have run between the start of the scope and the first value of a variable. Called by instrument/insert/closure-marks.js and look.js.
    * @param {Closure} closure
    * @param {Expression} init
    */
@@ -162,7 +162,10 @@ class Walker extends ExpressionWalker {
 
   // ---- loops
 
-  /** @param {() => void} visit */
+  /**
+   * Visits code that can run again: in it a declared variable can get a first value more than once.
+   * @param {() => void} visit
+   */
   inLoop(visit) {
     this.loops++;
     visit();
@@ -218,7 +221,7 @@ class Walker extends ExpressionWalker {
   }
 
   /**
-   * The body of a loop. The variables of its head are each turn's own; what the head does with them is no access.
+   * The body of a loop. The variables of its head are each turn's own; what the head does with them is no access. Called by instrument/insert/marks.js.
    * @param {Loop} loop
    * @param {Scope} scope
    * @param {boolean} hasTurns

@@ -282,8 +282,8 @@ class Accesses {
     return isOfObject(location) && !isOfTree(location) && !location.endsWith(')') && this.isWrittenWhole(location);
   }
 
-  /** @param {string} location */
-  isWrittenWhole(location) {
+  /** Whether several actions write a location, none by what was there before, and no other action reads it after a write. */
+  isWrittenWhole(/** @type {string} */ location) {
     /** @type {Set<number>} */
     const writers = new Set();
     for (const { line, action, isWrite } of this.of(location)) {

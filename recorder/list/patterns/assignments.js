@@ -26,6 +26,8 @@ const IS_GOING_ON = /^\s*[-+*/%&|^<>=?:.]/;
 /** So much of a right side is looked through. */
 const LONGEST = 1000;
 const MOST_LINES = 20;
+/** And so much is shown of it. */
+const LONGEST_SHOWN = 40;
 
 /** @param {string} text */
 const escaped = (text) => text.replace(/[\\^$.*+?()[\]{}|]/g, '\\$&');
@@ -108,4 +110,14 @@ function mayReadOld(sources, place) {
   return !isWhole || isSameKey || (right.includes('(') && object !== '' && isNamed(right, object));
 }
 
-module.exports = { isMadeOfOld, mayReadOld };
+/**
+ * The right side of the assignment at a place in one line, cut if it is long; '' if its end is not known. Called by list/other-order.js.
+ * @param {SourceText} sources @param {Place} place
+ */
+function assignedAt(sources, place) {
+  const { right = '', isWhole = false } = assignmentAt(sources, place) || {};
+  const text = right.trim().replace(/\s+/g, ' ');
+  return !isWhole || !text ? '' : text.length > LONGEST_SHOWN ? `${text.slice(0, LONGEST_SHOWN).trimEnd()}..` : text;
+}
+
+module.exports = { assignedAt, isMadeOfOld, mayReadOld };

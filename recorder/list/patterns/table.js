@@ -7,6 +7,8 @@ const REST = 'other';
 const HARMLESS = 'often harmless';
 /** The section of late handlers that ran in the recording and changed nothing in it, and without which a user loses little (idle.js). */
 const IDLE = 'late handlers that changed nothing';
+/** The section of clicks at links that a late handler does not take: the browser follows the link, which may lead to the same content. */
+const LINKS = 'links that work without their handler';
 /** The section of problems that would be in another one, if a replay found no visible difference. */
 const SAME = 'no visible difference when replayed';
 /** The section of two acts of a user against each other: a page is not at fault for their order. */
@@ -34,8 +36,9 @@ const LOOKS = {
 /**
  * A pattern as it was found in a race: `seen` says in words what was seen, and `here` which of the two orders the recording had; `rank` is its index in the
  * table. `detail` tells races of a pattern apart that do harm more often than others (list/rank.js). Of a late handler: `isUnchanged`, it ran and changed nothing;
- * `isOfLittle`, a user loses little without it if it changes nothing (idle.js); `isIdle`, both; `comesAgain`, its event comes again by itself.
- * @typedef {{isUnchanged: boolean, isIdle: boolean, isOfLittle: boolean, comesAgain: boolean}} Lateness
+ * `isOfLittle`, a user loses little without it if it changes nothing (idle.js); `isIdle`, both; `comesAgain`, its event comes again by itself; `link`, its event is
+ * the click at a link that leads somewhere, or comes along with it.
+ * @typedef {{isUnchanged: boolean, isIdle: boolean, isOfLittle: boolean, comesAgain: boolean, link: ''|'click'|'part'}} Lateness
  * @typedef {{look: LookKey, rank: number, name: string, part: string, seen: string, here: string, detail: Detail} & Lateness} Look
  */
 /**
@@ -52,6 +55,7 @@ const CHOOSING = new Set(['click', 'dblclick', 'change', 'input', 'submit']);
 const COMES_AGAIN = /^(?:mouse|pointer)(?:over|out|enter|leave|move|rawupdate)$/;
 
 /**
+ * A part of a pattern whose share of harm was judged apart (../rank.js).
  * Called by list/looks.js.
  * @param {LookKey} look
  * @param {string} word the first word of the race's location
@@ -79,24 +83,25 @@ const known = new Map();
  * @param {LookKey} look @param {string} seen @param {Detail} detail @param {Partial<Lateness>} lateness
  * @returns {Look}
  */
-function lookOf(look, seen = '', detail = '', { isUnchanged = false, isIdle = false, isOfLittle = isIdle, comesAgain = false } = {}) {
-  const key = `${look} ${detail} ${isUnchanged} ${isIdle} ${isOfLittle} ${comesAgain} ${seen}`;
+function lookOf(look, seen = '', detail = '', { isUnchanged = false, isIdle = false, isOfLittle = isIdle, comesAgain = false, link = '' } = {}) {
+  const key = `${look} ${detail} ${isUnchanged} ${isIdle} ${isOfLittle} ${comesAgain} ${link} ${seen}`;
   let one = known.get(key);
   const here = /(?:^|[;:] )here (.*)$/.exec(seen)?.[1] || '';
-  if (!one) known.set(key, one = { look, rank: RANKS.indexOf(look), ...LOOKS[look], seen, here, detail, isUnchanged, isIdle, isOfLittle, comesAgain });
+  if (!one) known.set(key, one = { look, rank: RANKS.indexOf(look), ...LOOKS[look], seen, here, detail, isUnchanged, isIdle, isOfLittle, comesAgain, link });
   return one;
 }
 
 /**
  * By which pattern a line is shown if it covers several, the lowest first: typed text that is lost comes before events, and a late handler that changed nothing
  * or whose event comes again after all that may do harm, except if it changed nothing and a user chooses something by its event. Two acts of a user come before
- * one, of which the browser decides the order.
- * @param {Pick<Look, 'look'|'rank'|'detail'|'isUnchanged'|'isIdle'|'comesAgain'>} look
+ * one, of which the browser decides the order. A click at a link comes after other clicks, then one whose
+ * handler changed nothing.
+ * @param {Pick<Look, 'look'|'rank'|'detail'|'isUnchanged'|'isIdle'|'comesAgain'|'link'>} look
  */
-function severityOf({ look, rank, detail, isUnchanged, isIdle, comesAgain }) {
+function severityOf({ look, rank, detail, isUnchanged, isIdle, comesAgain, link }) {
   if (isIdle || comesAgain || (isUnchanged && detail !== 'choosing')) return RANKS.indexOf('other') + 1 / 2;
   if (look === 'field') return -2;
-  if (look === 'late') return detail === 'choosing' ? -1 : RANKS.indexOf('act') + 1 / 2;
+  if (look === 'late') return detail === 'choosing' ? -1 / ((link ? 2 : 1) * (isUnchanged ? 3 : 1)) : RANKS.indexOf('act') + 1 / 2;
   return detail === 'one' ? rank + 1 / 2 : rank;
 }
 
@@ -126,4 +131,4 @@ const isHarm = ({ part }) => part === LOSES || part === THROWS;
  */
 const isAlwaysTold = ({ look }) => look === 'field' || look === 'act' || look === 'undefined' || look === 'replies';
 
-module.exports = { LOOKS, RANKS, APART, HARMLESS, IDLE, SAME, UNCHANGED, isAgain, lookOf, detailOf, isRather, isWorse, isHarm, isAlwaysTold };
+module.exports = { LOOKS, RANKS, APART, HARMLESS, IDLE, LINKS, SAME, UNCHANGED, isAgain, lookOf, detailOf, isRather, isWorse, isHarm, isAlwaysTold };

@@ -90,7 +90,7 @@ class UserActs {
   }
 
   /**
-   * The request whose reply an action is in. Called by list/looks.js and list/sides.js.
+   * The request whose reply an action is in. Called by list/looks.js and list/race-facts.js.
    * @param {number} number of the action
    * @returns {string|null} the request's number, as the trace has it
    */

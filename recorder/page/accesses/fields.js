@@ -34,6 +34,7 @@ class Fields {
     this.forms = new Forms(page);
   }
 
+  /** Hooks form fields, cookies and storage. One call per document, before its code runs. */
   start() {
     each(FIELD_PROPERTIES, ({ 0: owner, 1: name, 2: variable }) => this.#replaceField(this.page.window[owner].prototype, name, variable));
     this.#replaceOptions();

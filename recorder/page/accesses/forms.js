@@ -71,6 +71,7 @@ class Forms {
   }
 
   /**
+   * The radio buttons of the tree in which an element is: setting one can clear the others of its name.
    * @param {Element} element
    * @returns {ArrayLike<any>} elements
    */

@@ -6,6 +6,7 @@ import { spellName } from '../log/spelling.js';
 import { MISSING } from '../log/values.js';
 import { IS_COUNTED, READ, WRITE } from '../objects/holders.js';
 
+/** Room for so many sites at first; the list grows. */
 const FIRST_SITES = 4096;
 /** A part of the cells has 64 sites. */
 const BITS_OF_PART = 6;
@@ -59,22 +60,16 @@ class Globals {
     this.lastPieces = new Uint32Array(FIRST_SITES);
   }
 
-  /**
-   * A script declares variables with names of the browser. A `var` of such a name is the page's if it can be written. Called by page/helpers/runs.js.
-   * @param {[name: string, isVar: boolean][]} taken
-   */
-  take(taken) {
+  /** A script declares variables with names of the browser. A `var` of such a name is the page's if it can be written. Called by page/helpers/runs.js. */
+  take(/** @type {[name: string, isVar: boolean][]} */ taken) {
     each(taken, ({ 0: name, 1: isVar }) => {
       const found = this.propertyOf(name);
       if (!isVar || !found || found.set || found.writable) this.builtins.delete(name);
     });
   }
 
-  /**
-   * The location of a global variable, as the trace has it. Also for unseen.js.
-   * @param {string} name
-   */
-  location(name) {
+  /** The location of a global variable, as the trace has it. Also for unseen.js. */
+  location(/** @type {string} */ name) {
     return `var ${this.number} ${spellName(name)}`;
   }
 
@@ -145,6 +140,7 @@ class Globals {
   }
 
   /**
+   * A read of a global: of the variable of an object, if the recording has objects.
    * @param {string} name
    * @param {number} site
    */
@@ -154,6 +150,7 @@ class Globals {
   }
 
   /**
+   * A write of a global, with the value from before, if the recording has objects.
    * @param {string} name
    * @param {number} site
    */
@@ -188,7 +185,10 @@ class Globals {
     return this.cells[index] = part;
   }
 
-  /** @param {string} name */
+  /**
+   * Where the last known value of a `let`, `const` or `class` of the top is: it is no property of the window.
+   * @param {string} name
+   */
   #cellOf(name) {
     if (this.propertyOf(name)) return null;
     let cell = this.lexicals.get(name);

@@ -25,7 +25,10 @@ const OTHERS = [
 const PART = /\[[^\]]*\]|#((?:[\w-]|[^\x00-\x7f]|\\.)+)/;
 const ESCAPE = /\\(.)/;
 
-/** @param {string} name */
+/**
+ * A name of a selector without its backslashes, as an id has it.
+ * @param {string} name
+ */
 function withoutEscapes(name) {
   let text = '';
   let rest = name;
@@ -71,6 +74,7 @@ class Lookups {
     if (this.recording.objects) this.#watchOthers();
   }
 
+  /** Hooks lookups that find elements by something else than an id (tags, classes): they read the elements that they find. */
   #watchOthers() {
     const lookups = this;
     each(OTHERS, ({ 0: owner, 1: names }) => each(names, (name) => {

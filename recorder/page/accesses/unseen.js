@@ -55,6 +55,7 @@ class Unseen {
   }
 
   /**
+   * Hooks `Object.defineProperty` and others like it: a comparison of keys does not find all that they define at a window.
    * @param {object} owner
    * @param {string} name
    * @param {(target: object, given: any, descriptor: any) => void} note the arguments are whatever the page passes
@@ -76,6 +77,7 @@ class Unseen {
   }
 
   /**
+   * A property that is not enumerable is not among the keys that are compared, so its name is kept.
    * @param {object} target
    * @param {unknown} name
    * @param {GivenDescriptor} descriptor
@@ -99,7 +101,10 @@ class Unseen {
     each(this.hidden, (name) => this.#compareOne(name));
   }
 
-  /** @param {string} name */
+  /**
+   * Compares one global, unless it is a getter.
+   * @param {string} name
+   */
   #compareOne(name) {
     const descriptor = this.#descriptorOf(name);
     if (!descriptor) return;
@@ -134,6 +139,7 @@ class Unseen {
   }
 
   /**
+   * Compares a global with its last known value: if it changed while code without marks could run, that code has written it.
    * @param {string} name
    * @param {unknown} value
    */
@@ -147,6 +153,7 @@ class Unseen {
   }
 
   /**
+   * A write by code without marks: it has a value, and no place.
    * @param {string} name
    * @param {unknown} value
    */

@@ -125,6 +125,7 @@ function keysOf(collection) {
 const takeFirst = (list) => apply(shift, list, []);
 
 /**
+ * The index of an item in a list, or -1.
  * @template T
  * @param {ArrayLike<T>} list
  * @param {T} item

@@ -87,7 +87,10 @@ const digitsOf = (number, base) => apply(numberText, number, [base]);
 /** @type {import('../types').PatternTools} */
 const PATTERNS = { find: found, slice: sliceOf };
 
-/** @param {string} address */
+/**
+ * An address without its fragment: requests and files have none.
+ * @param {string} address
+ */
 function withoutFragment(address) {
   const at = indexIn(address, '#');
   return at < 0 ? address : sliceOf(address, 0, at);

@@ -3,6 +3,7 @@
 import { findItem } from './lists.js';
 import { Object } from './taken.js';
 
+/** The namespace of HTML: an element of another one (SVG) has other properties. */
 const HTML_NAMESPACE = 'http://www.w3.org/1999/xhtml';
 
 /**

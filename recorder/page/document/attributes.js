@@ -50,6 +50,7 @@ class Attributes {
   // ---- what an element loads
 
   /**
+   * Hooks a property as `img.src`: what is loaded then is requested by the running action.
    * @param {any} owner its members differ by interface
    * @param {string} name
    */
@@ -147,6 +148,7 @@ class Attributes {
     }
   }
 
+  /** Hooks `setAttributeNS`: `xlink:href` of SVG loads too, and without a namespace it is `setAttribute`. */
   #replaceSetAttributeOfNamespace() {
     const attributes = this;
     replaceMethod(this.page.window.Element.prototype, 'setAttributeNS', (native) => function setAttributeNS(namespace, name) {
@@ -166,6 +168,7 @@ class Attributes {
   }
 
   /**
+   * Calls what sets an attribute, as a new source if the element loads what that names.
    * @template T
    * @param {Element} element
    * @param {string} name

@@ -12,6 +12,7 @@ const LOADS = /^(script|img|iframe|frame|link|input|object|embed)$/;
 const OF_WINDOW = ['Bluetooth', 'Clipboard', 'CookieStore', 'DevicePosture', 'DocumentPictureInPicture', 'FontFaceSet', 'HID', 'MediaDevices', 'Navigation',
   'NavigatorManagedData', 'NetworkInformation', 'Performance', 'Screen', 'ScreenOrientation', 'Serial', 'ServiceWorkerContainer', 'SpeechSynthesis', 'USB',
   'VirtualKeyboard', 'VisualViewport', 'WindowControlsOverlay', 'XRSystem'];
+/** Characters: of an address that tells elements apart (instrument/page.js), and of one that is compared with a request. */
 const LONGEST_SOURCE = 200;
 const LONGEST_ADDRESS = 2000;
 

@@ -89,11 +89,8 @@ class Loading {
     recording.finishTop();
   }
 
-  /**
-   * Writes the begin of a dispatch that belongs to loading. Returns whether it does. Called by page/events/dispatches.js.
-   * @param {EventDispatch} dispatch
-   */
-  begin(dispatch) {
+  /** Writes the begin of a dispatch that belongs to loading. Returns whether it does. Called by page/events/dispatches.js. */
+  begin(/** @type {EventDispatch} */ dispatch) {
     const { event, target } = dispatch;
     if (this.#isOfDocument(event, target)) return this.#beginOfDocument(dispatch);
     if (!this.recording.steering.isTrusted(event) || target.nodeType !== 1 || isMedia(target)) return false;
@@ -153,7 +150,8 @@ class Loading {
   }
 
   /**
-   * What the end of parsing is after: the last step, and the run of a script that stands last. Nothing while the parser goes on.
+   * What the end of parsing is after: the last step, and the run of a script that stands last. Nothing while the parser goes on. Called by
+   * page/scripts/ready.js.
    * @returns {import('../types').Moment[]}
    */
   endOfParsing() {
@@ -251,7 +249,8 @@ class Loading {
   // ---- the end of a page
 
   /**
-   * The events of a page that is left come in one order: each comes after the one before. A call that leaves it dispatches the first one itself.
+   * The events of a page that is left come in one order: each comes after the one before. A call that leaves it dispatches the first one itself. Called by
+   * page/events/dispatches.js.
    * @param {EventDispatch} dispatch
    */
   orderLeaving(dispatch) {

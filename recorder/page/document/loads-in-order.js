@@ -30,7 +30,7 @@ class LoadsInOrder {
   }
 
   /**
-   * A frame shows a page. Its scripts come after the load of the page before, if that was always there first.
+   * A frame shows a page. Its scripts come after the load of the page before, if that was always there first. Called by sources.js.
    * @param {Element} frame
    * @param {import('./sources.js').Load|undefined} load
    * @param {number} number of the page
@@ -41,6 +41,7 @@ class LoadsInOrder {
   }
 
   /**
+   * The end of the load before of an element, if that load always comes first: its source was set before the one of this load.
    * @param {Element} element
    * @param {import('./sources.js').Load|undefined} load
    */

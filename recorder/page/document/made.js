@@ -5,6 +5,7 @@ import { replaceConstructor, replaceMethod, replaceProperty } from '../core/repl
 import { apply } from '../core/taken.js';
 import { isElement } from '../core/things.js';
 
+/** These load when code makes them with an address; other elements load when they are inserted. */
 const LOADS_AT_ONCE = 'img, image, audio, video';
 /** `nodeType` of a fragment. */
 const FRAGMENT = 11;
@@ -17,6 +18,7 @@ class Made {
     this.recording = page.recording;
   }
 
+  /** Hooks what makes elements without their being in the page. One call per document, before its code runs. */
   start() {
     const { window } = this.page;
     each(['Image', 'Audio'], (name) => replaceConstructor(window, name, (made) => this.#note(made)));

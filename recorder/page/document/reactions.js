@@ -85,6 +85,7 @@ class Reactions {
   }
 
   /**
+   * A promise of `customElements.whenDefined`: its reactions come after the definition.
    * @param {string} name
    * @param {object} promise
    */

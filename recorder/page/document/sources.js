@@ -103,7 +103,7 @@ class Sources {
   }
 
   /**
-   * Whether a frame has no page but the empty one, which loads while the parser inserts the frame.
+   * Whether a frame has no page but the empty one, which loads while the parser inserts the frame. Called by loading.js.
    * @param {Element} element
    */
   isEmptyFrame(element) {
@@ -137,6 +137,7 @@ class Sources {
   }
 
   /**
+   * The number of the page that a frame shows: the one of the running load, or of the frame's first, empty page, or a new one.
    * @param {Element} frame
    * @param {Load|undefined} load
    * @param {boolean} isPassing

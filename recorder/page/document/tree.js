@@ -58,7 +58,10 @@ class Tree {
     });
   }
 
-  /** @param {Maker} [maker] who made what is in the document by now */
+  /**
+   * Adds the elements that are there, and watches the document from now on.
+   * @param {Maker} [maker] who made what is in the document by now
+   */
   start(maker = 'script') {
     const { document } = this.page;
     if (document.documentElement) this.#addTree(document.documentElement, maker);
@@ -80,11 +83,8 @@ class Tree {
 
   // ---- changes
 
-  /**
-   * Takes the changes so far. Called by page/events/calls.js, page/frames.js and page/recording/recording.js.
-   * @param {'script'|'parser'} by
-   */
-  collect(by) {
+  /** Takes the changes so far. Called by page/events/calls.js, page/frames.js and page/recording/recording.js. */
+  collect(/** @type {'script'|'parser'} */ by) {
     const records = this.observer.takeRecords();
     if (records.length) this.#handle(records, by);
   }
@@ -95,6 +95,7 @@ class Tree {
   }
 
   /**
+   * Takes changes that the observer has, in the action that runs: by the parser, or by a script.
    * @param {MutationRecord[]} records
    * @param {'script'|'parser'} by
    */
@@ -122,6 +123,7 @@ class Tree {
   }
 
   /**
+   * One change of the tree, by its kind.
    * @param {MutationRecord} record
    * @param {Maker} maker
    */
@@ -134,6 +136,7 @@ class Tree {
   }
 
   /**
+   * Nodes came and went. Of a shadow tree none is removed, as nothing looks its elements up from outside.
    * @param {MutationRecord} record
    * @param {Maker} maker
    */
@@ -151,6 +154,7 @@ class Tree {
   }
 
   /**
+   * An attribute that others read by other ways: an id (lookups), `disabled` (what a user reaches), `open` (an event), classes and styles (motions).
    * @param {MutationRecord} record
    * @param {Maker} maker
    */
@@ -179,10 +183,7 @@ class Tree {
     if (objects) objects.trees.noteChange(record);
   }
 
-  /**
-   * @param {string|null} id
-   * @param {Maker} maker
-   */
+  /** @param {string|null} id @param {Maker} maker */
   #writeId(id, maker) {
     if (!id) return;
     const isParser = maker === 'parser';
@@ -198,10 +199,7 @@ class Tree {
 
   // ---- elements that come and go
 
-  /**
-   * @param {Node} node
-   * @param {Maker} maker
-   */
+  /** @param {Node} node @param {Maker} maker */
   #removeTree(node, maker) {
     if (!isElement(node)) return;
     this.#writeId(this.elements.idOf(node), maker);
@@ -209,6 +207,7 @@ class Tree {
   }
 
   /**
+   * A script inserted an element with all in it. Each is added, so that lookups have something to race with.
    * @param {Node} node
    * @param {Maker} maker
    */
@@ -243,8 +242,8 @@ class Tree {
 
   // ---- parse steps
 
-  /** @param {Element} element */
-  #addParsed(element) {
+  /** The parser has made an element: a step of it, unless it is one that a script had made. */
+  #addParsed(/** @type {Element} */ element) {
     const kind = this.elements.declaration(element, true);
     this.elements.markDeclared(element, kind);
     this.writeParsed(element, this.elements.number(element), kind);

@@ -45,6 +45,7 @@ class Calls {
     return this.writing > 0 && this.recording.contexts.length === this.writing;
   }
 
+  /** Hooks the calls of the tables above. One call per document, before its code runs. */
   start() {
     const { window } = this.page;
     each(INSERTIONS, ({ 0: owner, 1: names }) => each(names, (name) => this.replaceCall(window[owner].prototype, name, true)));
@@ -112,6 +113,7 @@ class Calls {
   }
 
   /**
+   * Calls `document.write`, in which the parser makes elements while a script runs. Calls can be nested: a written script may write.
    * @template T
    * @param {() => T} call
    * @returns {T}
@@ -127,6 +129,7 @@ class Calls {
   }
 
   /**
+   * Hooks a property whose new value changes the tree, as `innerHTML`.
    * @param {any} owner its members differ by interface
    * @param {string} name
    */
@@ -139,7 +142,11 @@ class Calls {
     }));
   }
 
-  /** @param {object} owner */
+  /**
+   * Hooks `dispatchEvent`. If nothing has listened to the type so far, no dispatch was recorded: capturing.js then notes which handlers the event would have
+   * found.
+   * @param {object} owner
+   */
   #replaceDispatching(owner) {
     const calls = this;
     const { capturing } = this.page;

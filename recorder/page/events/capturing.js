@@ -34,6 +34,7 @@ class Capturing {
     this.see = (/** @type {Event} */ event) => this.#sight(event);
   }
 
+  /** Listens to what is always recorded. One call per document, before its code runs. */
   start() {
     each(ALWAYS_RECORDED, (type) => this.capture(type));
     this.#captureAt('error');
@@ -74,7 +75,10 @@ class Capturing {
     each(types, (type) => this.#captureAt(type));
   }
 
-  /** @param {Event} event */
+  /**
+   * An event is seen first of all listeners: its dispatch begins, if it has begun nowhere else.
+   * @param {Event} event
+   */
   #sight(event) {
     if (this.recording.isOver || this.recording.steering.keepsEvent(event)) return;
     if (event.type === 'error') this.#sightError(/** @type {ErrorEvent} */ (event));

@@ -177,6 +177,7 @@ class Causes {
   }
 
   /**
+   * The browser queues `select` and `selectionchange` only if the selection of a field changes.
    * @template T
    * @param {HTMLInputElement} field
    * @param {() => T} call
@@ -191,6 +192,7 @@ class Causes {
   }
 
   /**
+   * The browser queues `selectionchange` only if an end of the selection moves.
    * @template T
    * @param {Selection} selection
    * @param {() => T} call
@@ -214,7 +216,10 @@ class Causes {
     return `${apply(scrollLeft, element, [])} ${apply(scrollTop, element, [])}`;
   }
 
-  /** @param {HTMLInputElement|HTMLTextAreaElement} field */
+  /**
+   * What is selected in a field, as a text that can be compared.
+   * @param {HTMLInputElement|HTMLTextAreaElement} field
+   */
   #selectedIn(field) {
     const { HTMLInputElement, HTMLTextAreaElement } = this.page.natives.selected;
     const { start, end } = field.localName === 'textarea' ? HTMLTextAreaElement : HTMLInputElement;

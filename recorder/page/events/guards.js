@@ -29,6 +29,7 @@ class Guards {
     this.asked = new WeakMap();
   }
 
+  /** Hooks the states of the table above. One call per document, before its code runs. */
   start() {
     const guards = this;
     each(STATES, ({ 0: owner, 1: name, 2: comes }) => replaceGetter(this.page.window[owner].prototype, name, (native) => function get() {

@@ -114,6 +114,7 @@ class Handlers {
   // ---- addEventListener
 
   /**
+   * The registrations of a target, a type and a phase.
    * @param {EventTarget} target
    * @param {string} type
    * @param {boolean} isCapture
@@ -159,6 +160,7 @@ class Handlers {
   }
 
   /**
+   * The registration of a listener at a target: the former one, if the listener was registered there before, so that its slot stays the same.
    * @param {EventTarget} target
    * @param {string} type
    * @param {Listener} listener

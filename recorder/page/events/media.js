@@ -69,7 +69,10 @@ class Media {
     this.loading.set(element, { moment, isOfSeveral: true, isUnseen: !moment });
   }
 
-  /** @param {HTMLMediaElement} element */
+  /**
+   * The running code has started to play: the events of playing come after it.
+   * @param {HTMLMediaElement} element
+   */
   #notePlaying(element) {
     const moment = this.recording.moment();
     const cause = moment ? { moment, isOfSeveral: true } : undefined;

@@ -167,6 +167,7 @@ class Motions {
 }
 
 /**
+ * The parent of a node; the host of a shadow root.
  * @param {import('../types').Natives} natives
  * @param {Node} node
  * @returns {Element|null}

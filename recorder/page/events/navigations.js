@@ -170,7 +170,10 @@ class Navigations {
 
   // ---- what a page does in place of a navigation
 
-  /** @param {any} owner the types lack this interface */
+  /**
+   * Hooks `intercept` of a navigation: its handler is called by the browser later, after the event.
+   * @param {any} owner the types lack this interface
+   */
   #replaceIntercept(owner) {
     const navigations = this;
     replaceMethod(owner, 'intercept', (native) => function intercept(...words) {

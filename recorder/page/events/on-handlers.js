@@ -44,6 +44,7 @@ class OnHandlers {
     this.originals = new WeakMap();
   }
 
+  /** Hooks all properties `on..` of the window and of what has handlers. One call per document, before its code runs. */
   start() {
     const { window } = this.page;
     const accessors = this.#makerOfAccessors();
@@ -217,6 +218,7 @@ class OnHandlers {
   }
 
   /**
+   * An `on..` handler of a type is gone.
    * @param {Target} owner
    * @param {string} type
    */

@@ -28,6 +28,7 @@ class Await {
 hideClass(Await);
 
 /**
+ * The helpers of `await` and of modules with `await` at their top.
  * Called by helpers.js.
  * @param {import('../types').Page} page
  */

@@ -124,7 +124,10 @@ function helpersOfModules({ globals, imports, recording }) {
   };
 }
 
-/** @param {import('../types').Page} page */
+/**
+ * The helpers of global variables, handlers, the window and modules.
+ * @param {import('../types').Page} page
+ */
 function helpersOfGlobals(page) {
   const ofNames = helpersOfNames(page.globals);
   return { ...ofNames, ...helpersOfHandlers(page, ofNames), ...helpersOfWindow(page), ...helpersOfModules(page) };

@@ -19,6 +19,7 @@ function helpersOfObjects(objects) {
 }
 
 /**
+ * All helpers of a document, which `__er` has. Without objects (`--depth globals`) those of objects are missing.
  * Called by page/main.js.
  * @param {import('../types').Page} page
  */

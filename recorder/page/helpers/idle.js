@@ -7,7 +7,10 @@ import { words } from '../core/strings.js';
 
 /** @typedef {{[name: string]: ((...args: any[]) => unknown)|null}} IdleHelpers the arguments are whatever the page passes */
 
-/** Called by page/main.js. */
+/**
+ * Helpers that do nothing and answer what the marks expect: in a document that is not recorded.
+ * Called by page/main.js.
+ */
 function idleHelpers() {
   const helpers = /** @type {IdleHelpers} */ ({ t: null, __proto__: null });
   each(words(settings.withoutAnswer), (name) => { helpers[name] = () => {}; });

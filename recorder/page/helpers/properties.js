@@ -118,6 +118,7 @@ function noterOfMade({ recording, sites, kinds }) {
 }
 
 /**
+ * The helpers of properties: each returns the object or the value that it got, so that the page's code goes on with it.
  * Called by helpers.js.
  * @param {import('../types').Objects} objects
  */

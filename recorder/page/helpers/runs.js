@@ -3,6 +3,7 @@
 import { MADE_OF_TEXT } from '../log/log.js';
 
 /**
+ * The helpers at the start and the end of scripts, modules and `javascript:` addresses.
  * Called by helpers.js.
  * @param {import('../types').Page} page
  */

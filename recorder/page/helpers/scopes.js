@@ -5,6 +5,7 @@ import { Scope } from '../objects/scopes.js';
 import { markOfStaged } from '../objects/sites.js';
 
 /**
+ * The helpers of captured variables.
  * Called by helpers.js.
  * @param {import('../types').Objects} objects
  */

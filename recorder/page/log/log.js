@@ -4,6 +4,10 @@
 import { JSON, Map, Object, String, apply } from '../core/taken.js';
 import { wayOf } from './stack.js';
 
+/**
+ * A batch is sent when it has so many lines, or is so many milliseconds old: a message for each line would be slow. Further stacks are not compared with
+ * earlier ones.
+ */
 const LINES_A_BATCH = 200;
 const MILLISECONDS_A_BATCH = 100;
 const MOST_STACKS = 20000;
@@ -60,7 +64,10 @@ class Log {
     else this.#add(line);
   }
 
-  /** @param {string} line */
+  /**
+   * Adds a line to the batch.
+   * @param {string} line
+   */
   #add(line) {
     this.#text += `${line}\n`;
     this.#lines++;
@@ -116,7 +123,10 @@ class Log {
     return JSON.stringify({ ...facts, toJSON: undefined });
   }
 
-  /** @param {(send: () => void) => void} sendSoon */
+  /**
+   * Requests one sending for all lines that come until then.
+   * @param {(send: () => void) => void} sendSoon
+   */
   #askToSend(sendSoon) {
     if (this.#isSendingSoon) return;
     this.#isSendingSoon = true;

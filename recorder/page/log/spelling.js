@@ -3,6 +3,7 @@
 import { digitsOf, fits, found, sliceOf } from '../core/strings.js';
 import { Map, Math, String, TextEncoder, Uint8Array, apply } from '../core/taken.js';
 
+/** Bytes: the limit of the format (docs/format.md). */
 const LONGEST_NAME = 255;
 /** Upper case, so that a name is written in one way (docs/format.md). */
 const DIGITS = '0123456789ABCDEF';
@@ -14,6 +15,7 @@ const { encode } = encoder;
 
 /** @type {Map<string, string>} */
 const spelledNames = new Map();
+/** So many written names are remembered: most come again and again. */
 const MOST_SPELLED = 20000;
 
 /**

@@ -1,10 +1,12 @@
-// The calls on the stack, and the place of the code that caused a line. It is taken from an `Error` (`stack`, `prepareStackTrace`).
+// The calls on the stack, and the place of the code that caused a line. It is taken from an `Error` (`stack`, `prepareStackTrace`), so many levels deep:
+// `STACK_DEPTH`.
 
 import { each, keep } from '../core/lists.js';
 import { settings } from '../core/settings.js';
 import { fits, found, sliceOf, withoutLastBlanks } from '../core/strings.js';
 import { Error, Map, Object, Reflect, apply, getOwnPropertyDescriptor, getPrototypeOf, isArray } from '../core/taken.js';
 
+/** Calls of a stack that are read: enough for the way through a library, and not too slow. */
 const STACK_DEPTH = 16;
 const LIMIT = 'stackTraceLimit';
 const PREPARE = 'prepareStackTrace';
@@ -47,6 +49,7 @@ function takeStack(depth = STACK_DEPTH) {
 const valueOnly = (value) => ({ __proto__: null, value, writable: true, enumerable: true, configurable: true });
 
 /**
+ * Gives a property of `Error` back to the page as it was.
  * @param {string} name
  * @param {PropertyDescriptor|undefined} descriptor as the page had it
  */
@@ -71,7 +74,10 @@ const placeOfCall = (call) => `${addressOf(call)}:${apply(getLineNumber, call, [
 /** How foreign files are (`foreignness`), by their addresses; of what is no file of the page NO_FILE. @type {Map<string, number>} */
 const known = new Map();
 
-/** @param {import('../types').CallSite} call */
+/**
+ * How foreign the file of a call is (0: the page's own, 2: a library; common/library.js), remembered by address: a stack is read at each place.
+ * @param {import('../types').CallSite} call
+ */
 function foreignnessOf(call) {
   const address = addressOf(call);
   let foreignness = known.get(address);

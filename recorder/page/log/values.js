@@ -13,7 +13,10 @@ const UNKNOWN = {};
 /** There is no such property. A name that is no property of the window is nothing, or a variable that is in no object. */
 const MISSING = {};
 
-/** @param {string} text */
+/**
+ * A hash of a text (FNV-1a), of a long one by its start and its end: it only tells values apart.
+ * @param {string} text
+ */
 function hashOf(text) {
   const digested = text.length > LONGEST_DIGESTED ? sliceOf(text, 0, LONGEST_DIGESTED / 2) + sliceOf(text, -LONGEST_DIGESTED / 2) : text;
   let value = 0x811c9dc5;

@@ -38,6 +38,7 @@ class Callers {
     return place ? this.#numberOf(site, place) : site;
   }
 
+  /** Whether this action may still ask for the stack: reading it is slow, and a loop of a library calls often. */
   #isWanted() {
     const { actions } = this.recording;
     if (this.action !== actions) {

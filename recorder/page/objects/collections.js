@@ -1,5 +1,5 @@
 // Arrays, maps and sets: what their items, keys and methods touch; and whole objects, as a spread reads them. `push`, `splice`, `sort`, `length`, `Map.get`,
-// `Set.add`: which keys and items each of these methods reads or writes.
+// `Set.add`: which keys and items each of these methods reads or writes. An index (`a[3]`) is a property: properties.js.
 
 import { Array, Map, Object, Set, apply, getPrototypeOf, hasOwn } from '../core/taken.js';
 import { isThing } from '../core/things.js';
@@ -81,6 +81,8 @@ class Collections {
   }
 
   /**
+   * A method of an array was called: `push` writes its items without reading them; those that move items read and write all; others read all. A method of its
+   * own is only read.
    * @param {import('../types').Holder} holder
    * @param {string} name
    * @param {number} site
@@ -95,6 +97,7 @@ class Collections {
   }
 
   /**
+   * All items of an array are read: the variable of all, and each that was touched by its index.
    * @param {import('../types').Holder} holder
    * @param {number} site
    */
@@ -108,6 +111,7 @@ class Collections {
   // ---- maps and sets
 
   /**
+   * A method of a map or a set was called: which keys it reads or writes. A method of its own is none of these.
    * @param {import('../types').Holder} holder
    * @param {string} name
    * @param {number} site
@@ -220,6 +224,7 @@ class Collections {
   }
 
   /**
+   * The names of an object, at most MOST_SPREAD of them.
    * @param {object} object
    * @param {(name: string) => void} visit
    */

@@ -4,6 +4,7 @@
 import { Map } from '../core/taken.js';
 import { UNKNOWN } from '../log/values.js';
 
+/** Of more variables an object has a map: a short list is faster to search. */
 const MOST_IN_LIST = 8;
 
 const READ = 0;

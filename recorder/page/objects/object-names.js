@@ -8,6 +8,7 @@ import { BUILTIN, IS_OF_TREE, LEFT_OUT, LIST, SCOPE, TREE, WINDOW } from './hold
 
 /** The object of an element has the same number as its field. */
 const { FIRST_FIELD, FIRST_OBJECT } = settings.numbers;
+/** Characters of a name that the page gave (`displayName`, a key): it is shown to a reader. */
 const LONGEST_TOLD = 80;
 
 /** One for each recording: `recording.objects.objectNames`. */
@@ -94,6 +95,7 @@ class ObjectNames {
   }
 
   /**
+   * A text that an object has itself at a name, without calling a getter or a proxy of the page.
    * @param {object} object
    * @param {string} name
    */
@@ -113,7 +115,10 @@ class ObjectNames {
     return typeof key === 'string' ? `[${sliceOf(key, 0, LONGEST_TOLD)}]` : `[${String(key)}]`;
   }
 
-  /** @param {object} key */
+  /**
+   * The number of an object that is a key of a map.
+   * @param {object} key
+   */
   #keyNumber(key) {
     let number = this.keys.get(key);
     if (number === undefined) this.keys.set(key, number = this.recording.next('key'));

@@ -64,6 +64,7 @@ class Patterns {
   }
 
   /**
+   * What an object pattern takes: names and inner shapes come in pairs; `...` reads all.
    * @param {object} object
    * @param {number} site
    * @param {Shape} shape
@@ -79,6 +80,7 @@ class Patterns {
   }
 
   /**
+   * What an inner pattern takes of a value, if that is an object that the recording looks into.
    * @param {object} object
    * @param {import('../types').VariableName} name
    * @param {number} site

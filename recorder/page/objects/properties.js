@@ -1,5 +1,5 @@
-// Accesses to properties by their names: which object of the prototype chain they belong to, and what they touch. Of a getter or a
-// setter, its own code is recorded.
+// Accesses to properties by their names: which object of the prototype chain they belong to, and what they touch. Of a getter or a setter, its own code is
+// recorded. An item of an array (`a[3]`) is a variable too.
 
 import { findItem } from '../core/lists.js';
 import { settings } from '../core/settings.js';
@@ -67,6 +67,7 @@ class Properties {
   }
 
   /**
+   * A member of the window is a global variable; a number is a frame, no variable. `modes`: r reads, w writes, u updates, U counts.
    * @param {import('../types').Page} page
    * @param {import('../types').VariableName} name
    * @param {import('../types').Modes} modes

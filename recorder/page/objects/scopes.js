@@ -34,6 +34,7 @@ class Scope {
     this.#maker = maker;
   }
 
+  /** Makes the holder of the scope's variables when one is first touched: most scopes never race. */
   #hold() {
     const holder = new Holder(SCOPE, this.#site, null);
     if (typeof this.#number === 'number') holder.number = this.#number;

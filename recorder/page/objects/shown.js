@@ -69,11 +69,15 @@ const READS_STYLE = new Set(['getPropertyValue', 'getPropertyPriority']);
 
 /** Their variables are those of the properties of the same name (fields.js), and lookups (lookups.js). */
 const OTHERS = new Set(['id', 'value', 'checked']);
-/** @param {string} attribute */
+/**
+ * Whether other modules record an attribute: its id, its value, a handler. Called by trees.js.
+ * @param {string} attribute
+ */
 const isOther = (attribute) => OTHERS.has(attribute) || sliceOf(attribute, 0, 2) === 'on';
 
 /** @param {string} property */
 function attributeOfAria(property) {
+  if (property[0] !== 'a' || property[3] !== 'a') return null; // most names
   if (sliceOf(property, 0, ARIA.length) !== ARIA || property.length === ARIA.length) return null;
   return hasEnd(property, OF_ELEMENTS[0]) || hasEnd(property, OF_ELEMENTS[1]) ? null : `${ARIA}-${lowerCase(sliceOf(property, ARIA.length))}`;
 }

@@ -17,11 +17,14 @@ function withDashes(name) {
   return text;
 }
 
-/** @param {string} name */
+/**
+ * The attribute of a property of `dataset`. Called by trees.js.
+ * @param {string} name
+ */
 const nameOfData = (name) => `data-${withDashes(name)}`;
 
 /**
- * The name that style sheets have for a property.
+ * The name that style sheets have for a property. Called by trees.js.
  * @param {string} property
  */
 function nameOfStyle(property) {
@@ -31,7 +34,7 @@ function nameOfStyle(property) {
 }
 
 /**
- * The name that a property has in code, as `style.paddingTop`.
+ * The name that a property has in code, as `style.paddingTop`. Called by trees.js.
  * @param {string} name that style sheets have for it
  */
 function propertyOfStyle(name) {

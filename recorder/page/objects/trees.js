@@ -274,6 +274,7 @@ class Trees {
 }
 
 /**
+ * A variable that is an attribute, the content or a style of an element, and no property of scripts.
  * @param {import('../types').Holder} holder
  * @param {string} name
  */

@@ -101,7 +101,10 @@ class Controls {
     else this.#look(control, maker);
   }
 
-  /** @param {Element} control */
+  /**
+   * Whether a control came disabled and nothing has enabled it.
+   * @param {Element} control
+   */
   #isWaiting(control) {
     const known = this.#known(control);
     return !!known && !known.moment;

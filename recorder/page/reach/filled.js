@@ -6,6 +6,7 @@ import { fits } from '../core/strings.js';
 import { apply } from '../core/taken.js';
 import { isElement } from '../core/things.js';
 
+/** Kinds of nodes, as `nodeType` has them. */
 const TEXT = 3;
 const COMMENT = 8;
 const BLANK = /^[ \t\n\r\f]*$/;

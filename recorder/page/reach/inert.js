@@ -4,6 +4,7 @@
 import { findItem } from '../core/lists.js';
 import { apply } from '../core/taken.js';
 
+/** An inert element and all in it cannot be reached, nor what is outside of an open modal dialog. */
 const IS_INERT = ':is([inert], [inert] *)';
 const MODAL = 'dialog:modal';
 

@@ -153,6 +153,7 @@ class Places {
   }
 
   /**
+   * The outermost element over a point that does not contain the wanted one: what covers it.
    * @param {Element} hit
    * @param {Element} element
    */

@@ -93,11 +93,8 @@ class Reach {
     this.#look(this.recording.lastMoment());
   }
 
-  /**
-   * Looks at all elements that were out of reach, and notes a moment for those that came into reach.
-   * @param {Moment|null} moment
-   */
-  #look(moment) {
+  /** Looks at all elements that were out of reach, and notes a moment for those that came into reach. */
+  #look(/** @type {Moment|null} */ moment) {
     const { natives } = this;
     if (!natives.checkVisibility || this.recording.isOver || !(this.waiting.size || this.fresh.length)) return;
     const began = natives.now();
@@ -239,7 +236,10 @@ class Reach {
     return this.natives.getComputedStyle(element).display;
   }
 
-  /** @param {Element} element */
+  /**
+   * How a user reaches an element now: not at all, by keys only, or by a pointer too. Asking for places is slow: after a while it is not done.
+   * @param {Element} element
+   */
   #levelOf(element) {
     const { natives } = this;
     if (!apply(natives.checkVisibility, element, [ASKS_VISIBILITY]) || this.inert.has(element)) return HIDDEN;

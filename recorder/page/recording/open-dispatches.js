@@ -74,7 +74,7 @@ class OpenDispatches extends Lines {
   }
 
   /**
-   * Begins a dispatch of whose cause nothing is known: it comes after the one before of its type at its target (rule 17).
+   * Begins a dispatch of whose cause nothing is known: it comes after the one before of its type at its target (rule 17). Called by page/events/dispatches.js.
    * @param {import('../types').NewDispatch} dispatch
    * @param {'fire'|'wfire'} word
    * @param {number} target an element, or the document of a window
@@ -107,6 +107,7 @@ class OpenDispatches extends Lines {
   }
 
   /**
+   * Keeps the end of a trusted dispatch for those of its task that follow; only the last MOST_CLOSED.
    * @param {string} type
    * @param {number} time
    */

@@ -24,6 +24,7 @@ const isBefore = (running, event) => isFound(running, event, false);
 const comesBefore = (running, event) => isFound(running, event, true);
 
 /**
+ * Whether an event is found by going back from the running one, so many steps at most: a longer chain counts as not ordered, which is safe.
  * @param {TraceEvent} running
  * @param {TraceEvent} event
  * @param {boolean} isByDelays whether the callbacks of timeouts are searched too that came earlier

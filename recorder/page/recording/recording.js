@@ -1,4 +1,5 @@
-// What runs now: the running event, the code on the stack. A page and its frames share one recording.
+// What runs now: the running event, the code on the stack. A page and its frames share one recording. Here a task starts, and its microtasks are over (a
+// checkpoint).
 
 import { each } from '../core/lists.js';
 import { settings } from '../core/settings.js';
@@ -39,7 +40,7 @@ class Recording extends OpenDispatches {
     if (objects) this.log.beforeSending = () => objects.settleEarly(); // no page answers while it is left (--attach)
   }
 
-  /** The driver says which act of the user it does now, or 0. */
+  /** The driver says which act of the user it does now, or 0. Called by recording/acts.js. */
   setAct(/** @type {number} */ number) {
     this.act = number;
   }

@@ -5,6 +5,7 @@ import { Number } from '../core/taken.js';
 import { callsOfPage, placeOfCall, placeOnStack, wayOf } from '../log/stack.js';
 
 /**
+ * Whether a place of the stack is in the columns of a spot: the copy of the code can have more than one for a place of the source.
  * @param {string} place `address:line:column` in the browser's copy
  * @param {import('../types').Spot|null} spot
  */

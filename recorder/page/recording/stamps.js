@@ -8,6 +8,7 @@ import { apply } from '../core/taken.js';
 const stampOf = (window) => window.console.timeStamp.bind(window.console);
 
 /**
+ * Shows each begin and end of an action in the browser's own timeline, for test/timeline.js.
  * Called by page/main.js.
  * @param {PageWindow} window the page's own, not that of a frame
  * @param {import('../types').Recording} recording

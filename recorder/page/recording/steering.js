@@ -209,6 +209,8 @@ class Steering {
   }
 
   /**
+   * Whether an event is the one that a replay holds, by its target and how many of its type came there; then also each further one at this target, so that
+   * their order stays.
    * @param {import('../types').Held} hold
    * @param {Event} event
    */
@@ -222,10 +224,7 @@ class Steering {
     return hold.met === nth;
   }
 
-  /**
-   * @param {{tag?: string, id?: string, source?: string}} wanted
-   * @param {any} target any target of events
-   */
+  /** @param {{tag?: string, id?: string, source?: string}} wanted @param {any} target any target of events */
   #isElement({ tag, id, source }, target) {
     const { getAttribute } = this.natives;
     if (!target || target.nodeType !== 1) return false;

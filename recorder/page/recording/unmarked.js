@@ -6,8 +6,11 @@ import { settings } from '../core/settings.js';
 import { fits } from '../core/strings.js';
 import { WeakSet } from '../core/taken.js';
 
-/** In these contexts: a script can have parts that are not marked, and names in a handler attribute can be those of its element. */
-const HAVE_UNMARKED = /^(?:script|attribute)$/;
+/**
+ * Whether a context can have code without marks: a script that inserts another one, or a handler attribute, whose names can be those of its element.
+ * @param {string} context
+ */
+const hasUnmarked = (context) => context === 'script' || context === 'attribute';
 /** Texts of functions that write nothing, as libraries use them to find the window. */
 const WRITES_NOTHING = /^\s*(?:return\s+)?(?:this|globalThis|window|self)\s*;?\s*$/;
 /** Text that can make a function, which can run in any later piece. */
@@ -57,7 +60,7 @@ class Unmarked {
   }
 
   /**
-   * A script has come whose text is not in the page. Called by page/document/tree.js.
+   * A script has come whose text is not in the page. Called by page/scripts/insertions.js.
    * @param {string} address
    */
   noteAddress(address) {
@@ -77,7 +80,7 @@ class Unmarked {
    * @param {string[]} contexts what is on the stack
    */
   takeDue(contexts) {
-    const isDue = this.isAnywhere || this.isInPiece || ++this.pieces >= ONE_OF || findItem(contexts, (kind) => fits(HAVE_UNMARKED, kind)) !== undefined;
+    const isDue = this.isAnywhere || this.isInPiece || ++this.pieces >= ONE_OF || findItem(contexts, hasUnmarked) !== undefined;
     if (isDue) this.pieces = 0;
     this.isInPiece = false;
     return isDue;

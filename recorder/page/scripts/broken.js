@@ -27,6 +27,8 @@ class Broken {
   }
 
   /**
+   * The element of a script that is no JavaScript: an error says only the file, so the last parsed inline script, or the first script of that file that has not
+   * run.
    * @param {string} filename
    * @returns {Element|undefined}
    */

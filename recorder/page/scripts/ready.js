@@ -6,6 +6,7 @@ import { replaceMethod, showAs } from '../core/replacing.js';
 import { Set, WeakSet, apply, getOwnPropertyDescriptor, getPrototypeOf } from '../core/taken.js';
 import { placeOnStack } from '../log/stack.js';
 
+/** The library whose `ready` is known. */
 const LIBRARY = 'jQuery';
 /** The names by which code has it. */
 const NAMES_OF_LIBRARY = new Set([LIBRARY, '$']);
@@ -47,7 +48,10 @@ class Ready {
     return !this.#isProxy(library) && getPrototypeOf(library) === this.functions;
   }
 
-  /** @param {object} object */
+  /**
+   * Whether an object would run code of the page if it were looked at.
+   * @param {object} object
+   */
   #isProxy(object) {
     const { objects } = this.recording;
     return objects !== null && objects.kinds.isLeftOut(object);

@@ -49,6 +49,7 @@ class Callbacks {
     this.transitions = new WeakMap();
   }
 
+  /** Hooks the calls of the table above. One call per document, before its code runs. */
   start() {
     const { window } = this.page;
     each(CALLBACKS, ({ 0: owner, 1: name, 2: indices, 3: property }) => {

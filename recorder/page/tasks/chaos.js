@@ -157,7 +157,10 @@ class Chaos {
     });
   }
 
-  /** @param {number} time */
+  /**
+   * Whether all callbacks of this animation frame wait for the next one: one chance for a frame, and at most MOST_FRAMES in a row.
+   * @param {number} time
+   */
   #skipsFrame(time) {
     const { frame } = this;
     if (time !== frame.time) {
@@ -182,6 +185,7 @@ class Chaos {
   }
 
   /**
+   * Hooks the call that cancels: the page has the number of a request that was put off.
    * @param {import('../types').PageWindow} window
    * @param {string} name
    * @param {Map<number, Request>} requests
@@ -279,7 +283,10 @@ class Chaos {
     this.natives.setTimeout(() => { if (hasItem(this.queues, queue)) this.#postQueue(queue); }, wait);
   }
 
-  /** @param {Queue} queue */
+  /**
+   * Posts all messages of a queue, in the order of the page.
+   * @param {Queue} queue
+   */
   #postQueue(queue) {
     this.queues = keep(this.queues, (one) => one !== queue);
     each(queue.posts, (post) => post());

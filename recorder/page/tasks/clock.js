@@ -19,7 +19,10 @@ class Clock {
     this.own = [this.#current(NAMES[0]), this.#current(NAMES[1])];
   }
 
-  /** @param {string} name */
+  /**
+   * What a global of the page is now, without calling a getter of the page.
+   * @param {string} name
+   */
   #current(name) {
     const descriptor = this.page.globals.propertyOf(name);
     return descriptor && 'value' in descriptor ? descriptor.value : descriptor?.get;

@@ -6,6 +6,7 @@ import { replaceConstructor, replaceMethod } from '../core/replacing.js';
 import { sliceOf } from '../core/strings.js';
 import { Map, String, WeakMap, apply } from '../core/taken.js';
 
+/** Constructors: what they make gets events from a server for as long as it is open. */
 const CONNECTIONS = ['EventSource', 'WebSocket'];
 /** Calls whose events come at the object itself. */
 /** @type {[owner: string, names: string[]][]} */
@@ -38,6 +39,7 @@ class Connections {
     this.opening = new Map();
   }
 
+  /** Hooks constructors (sockets, `EventSource`) and calls that are answered by events. One call per document, before its code runs. */
   start() {
     const { window } = this.page;
     each(CONNECTIONS, (name) => replaceConstructor(window, name, (made, words) => {
@@ -109,6 +111,7 @@ class Connections {
   }
 
   /**
+   * The queue of a request to a database: requests of one transaction are answered in their order; undefined if it is no database.
    * @param {EventTarget & {transaction?: object|null}} target
    * @param {import('./requests.js').Request} request
    */

@@ -44,7 +44,7 @@ class EarlierReactions {
   }
 
   /**
-   * The ends of the reactions at its promise that were requested before a reaction.
+   * The ends of the reactions at its promise that were requested before a reaction. Called by jobs.js.
    * @param {Asked} asked
    * @returns {Moment[]}
    */

@@ -30,6 +30,7 @@ class EndedRequests {
     this.ended = [];
   }
 
+  /** Hooks `abort`: what was open before it and is aborted after it has ended by it. */
   start() {
     const endedRequests = this;
     replaceMethod(this.page.window.AbortController.prototype, 'abort', (native) => function abort() {
@@ -52,7 +53,7 @@ class EndedRequests {
   }
 
   /**
-   * A request is sent by `fetch`.
+   * A request is sent by `fetch`. Called by requests.js.
    * @param {Request} request
    * @param {any} input whatever the page passes
    * @param {any} options whatever the page passes
@@ -82,7 +83,7 @@ class EndedRequests {
     if (this.ended.length > MOST_REMEMBERED) takeFirst(this.ended);
   }
 
-  /** The last replies of the requests that were ended before the running code: what this code sends is answered after them. */
+  /** The last replies of the requests that were ended before the running code: what this code sends is answered after them. Called by requests.js. */
   lastReplies() {
     const { recording, ended } = this;
     /** @type {Moment[]} */

@@ -50,6 +50,7 @@ class Observers {
     return observed;
   }
 
+  /** Hooks the constructors of observers, their `observe`, and the registry of finalizers. One call per document, before its code runs. */
   start() {
     const { window } = this.page;
     each(keep(OBSERVERS, (name) => window[name]), (name) => {
@@ -89,7 +90,10 @@ class Observers {
     return { name, handler, asked: jobs.ask(null), type: '', told: [], hold: this.recording.steering.asks('on') };
   }
 
-  /** @param {any} owner its members differ by interface */
+  /**
+   * Hooks `observe`: an observer's callback comes after the calls that say what it observes.
+   * @param {any} owner its members differ by interface
+   */
   #replaceObserve(owner) {
     const observers = this;
     replaceMethod(owner, 'observe', (native) => function observe(target) {

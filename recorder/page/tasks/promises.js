@@ -52,6 +52,7 @@ class Promises {
     this.prototype = page.window.Promise.prototype;
   }
 
+  /** Hooks what asks for jobs. One call per document, before its code runs. */
   start() {
     const { window } = this.page;
     this.#replaceThen(window);
@@ -87,7 +88,10 @@ class Promises {
     });
   }
 
-  /** @param {import('../types').PageWindow} window */
+  /**
+   * Hooks `queueMicrotask`: the job belongs to the action that requested it.
+   * @param {import('../types').PageWindow} window
+   */
   #replaceQueueing(window) {
     const promises = this;
     const { jobs } = this.page;
@@ -139,6 +143,8 @@ class Promises {
   }
 
   /**
+   * A promise of several gets the moments at which its members were settled. One that is decided by a single member (`any` fulfilled, `all` rejected) comes
+   * only after that one.
    * @param {Several} made
    * @param {boolean} isFulfilled
    * @param {(Moment|null)[]} before

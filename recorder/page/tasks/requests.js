@@ -38,6 +38,7 @@ class Requests {
     this.addresses = new WeakMap();
   }
 
+  /** Hooks `XMLHttpRequest` and `fetch`. One call per document, before its code runs. */
   start() {
     const { window } = this.page;
     this.#replaceXhr(window.XMLHttpRequest.prototype);

@@ -46,6 +46,7 @@ class Timers {
     this.ran = [];
   }
 
+  /** Hooks timers, frames and idle callbacks. One call per document, before its code runs. */
   start() {
     const { window } = this.page;
     this.#replaceTimeout(window);

@@ -177,6 +177,7 @@ class Files {
   }
 
   /**
+   * The parser can be held before the tag at a place; null if no tag is there.
    * @param {Place|undefined} place
    * @param {number} action
    * @param {string} what in words

@@ -221,6 +221,7 @@ const WORDS = {
 };
 
 /**
+ * A difference in one line, as the view and the list have it.
  * @param {Difference} difference
  * @param {Sides} sides
  */

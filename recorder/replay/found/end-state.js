@@ -62,7 +62,10 @@ function storageOfPage() {
 /** @param {HTMLElement|null|undefined} body */
 const linesOfBody = (body) => (body ? body.innerText : '').split('\n').map((line) => line.trim()).filter(Boolean);
 
-/** @param {HTMLIFrameElement|HTMLFrameElement} frame */
+/**
+ * The lines of text in a frame; none of one of another origin.
+ * @param {HTMLIFrameElement|HTMLFrameElement} frame
+ */
 function linesOfFrame(frame) {
   try {
     return linesOfBody(frame.contentDocument?.body);
@@ -193,6 +196,7 @@ const HIDE_CARET = `document.documentElement && (() => {
 })()`;
 
 /**
+ * Takes a screenshot (PNG) of what a user sees at the end, and a small one for the view. The caret is hidden, as it blinks.
  * @param {import('../../browser/tab.js').Tab} tab
  * @returns {Promise<Picture>}
  */

@@ -121,7 +121,7 @@ class Orders {
   }
 
   /**
-   * In which runs a race came in which order by itself, and in which with another one; null if it came in none. Called by replay-command.js.
+   * In which runs a race came in which order by itself, and in which with another one; null if it came in none. Called by replay-results.js.
    * @param {Race} race
    * @returns {import('../types').Chance|null}
    */

@@ -4,7 +4,7 @@
 const { execFileSync } = require('node:child_process');
 const fs = require('node:fs');
 const path = require('node:path');
-const { IDLE, LOOKS } = require('../../list/patterns/table.js');
+const { IDLE, LINKS, LOOKS } = require('../../list/patterns/table.js');
 const { tableOf, told } = require('../corpus/tables.js');
 const { bugTable } = require('./confirmed.js');
 const { judgementText } = require('./judged.js');
@@ -18,7 +18,7 @@ const { timesOf } = require('./times.js');
  * @typedef {import('./types').Line} Line
  */
 
-const SECTIONS = [...new Set([...Object.values(LOOKS).map(({ part }) => part), IDLE])];
+const SECTIONS = [...new Set([...Object.values(LOOKS).map(({ part }) => part), LINKS, IDLE])];
 const HEAD = ['Application', 'Version', 'Log-in', 'Load without, with (s)', 'Times', 'Actions', 'Accesses', 'Races', 'Lines', 'By section', 'Again', 'Status',
   '`er_page` (s)'];
 const ABOUT = `Each is recorded twice by \`er_page\`, on a slow network, while a user does what its module in \`recorder/test/applications/packages/\` says.

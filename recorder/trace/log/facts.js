@@ -12,6 +12,7 @@ const { withoutCommands } = require('../../common/shown.js');
  * @typedef {(value: unknown) => unknown} Reader gives the value as it is taken, or undefined if it is none
  */
 
+/** Limits of what a page can write: other facts are not taken. The number is the largest of the format. */
 const MOST_NUMBER = 2 ** 32 - 1;
 const LONGEST_TEXT = 300;
 const LONGEST_ADDRESS = 4000;
@@ -46,7 +47,10 @@ const why = (value) => (typeof value === 'string' && value in Object.prototype ?
  * @type {Reader}
  */
 const raw = (value) => textOf(value, LONGEST_TEXT);
-/** @type {Reader} */
+/**
+ * An address of a fact, without password and control characters.
+ * @type {Reader}
+ */
 function address(value) {
   const given = textOf(value, LONGEST_ADDRESS);
   return given === undefined ? undefined : withoutCommands(withoutCredentials(given));

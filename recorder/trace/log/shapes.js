@@ -104,6 +104,7 @@ const PREFIXES = new Map([['early', 1], ['beside', 2], ['into', 2], ['since', 2]
 const FREQUENT = /^(?:in (?:0|[1-9]\d{0,8}) [rwk] (?:0|[1-9]\d{0,8})|all [rw] (?:0|[1-9]\d{0,8})(?: (?:own|first|same))?)$/;
 
 /**
+ * Whether words have one of the shapes of their first word.
  * @param {Map<string, Shape[]>} shapes
  * @param {string[]} tokens
  */

@@ -1,6 +1,6 @@
 'use strict';
-// Which timeouts (timers) are compared with each other, as one of 100 ms and one of 200 ms: only those of one window have an order by their delays. The
-// analyzer compares the delays (docs/rules.md, rule 19).
+// Which timeouts (timers) are compared with each other, as one of 100 ms and one of 200 ms: only those of one window have an order by their delays, also two of
+// the same delay (the first one that was set comes first). The analyzer compares the delays (docs/rules.md, rule 19).
 
 const { BEGINS } = require('../intake.js');
 

@@ -15,6 +15,7 @@ const { Documents } = require('./documents.js');
  *   `suspended` is the word of the event that an inline one suspends, `group` the greatest one that a handler ran in
  */
 
+/** The limit of the analyzer (docs/format.md, "Refusals"). */
 const MOST_INLINE = 256;
 /** The words of events in which code runs: it may dispatch others. */
 const RUNS_CODE = new Set([...BEGINS].filter((word) => !['parse', 'back'].includes(word) && !RECORDS[word].isDispatch));
@@ -180,6 +181,7 @@ class LegalTrace {
     return true;
   }
 
+  /** An inline dispatch ends. Returns what was suspended by it. */
   leaveInline() {
     this.inlines--;
     return /** @type {Dispatch} */ (this.stack.pop()).suspended;

@@ -89,7 +89,10 @@ class MovedNotes {
     return [...this.takeBeside(words[2]), ...inFrame].flatMap((entry) => [entry, ...this.besideOf(entry, depth + 1)]);
   }
 
-  /** @param {string} key */
+  /**
+   * The notes that belong beside a record, which gets them once.
+   * @param {string} key
+   */
   takeBeside(key) {
     const notes = this.beside.get(key) || [];
     this.beside.delete(key);
@@ -98,6 +101,7 @@ class MovedNotes {
 }
 
 /**
+ * Entries with each note in the action to which it belongs.
  * Called by trace/spelling.js.
  * @param {Entry[]} entries the log
  * @returns {Entry[]}

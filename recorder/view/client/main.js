@@ -74,7 +74,17 @@ const fold = (className, some, ...words) => (some.length ? [foldable(className, 
 function piecesByVerdict(some) {
   const harmless = some.filter(isHarmless);
   const others = some.filter((line) => !isHarmless(line));
-  return [...(others.length ? [pieces(others, lineBox)] : []), ...fold('harmless', harmless, `${counted(harmless.length, 'problem')} with no visible difference in the other order`)];
+  return [...(others.length ? [pieces(others, lineBox)] : []), ...fold('harmless', harmless, `${countedProblems(harmless)} with no visible difference in the other order`)];
+}
+
+/**
+ * How many problems some lines are for, and how many lines, if these are fewer.
+ * @param {Line[]} some
+ */
+function countedProblems(some) {
+  const problems = some.reduce((sum, line) => sum + line.problems.length, 0);
+  const inEntries = problems > some.length ? ` in ${some.length} entr${some.length === 1 ? 'y' : 'ies'}` : '';
+  return counted(problems, 'problem') + inEntries;
 }
 
 /**
@@ -83,7 +93,7 @@ function piecesByVerdict(some) {
  * @param {Line[]} some
  */
 function section(part, some) {
-  const heading = [make('h2', {}, part), make('span', { class: 'size' }, counted(some.length, 'problem'))];
+  const heading = [make('h2', {}, part), make('span', { class: 'size' }, countedProblems(some))];
   if (CLOSED.includes(part)) return fold('section', some, ...heading);
   return [make('section', { class: 'section' }, make('header', {}, ...heading), pieces(some, lineBox))];
 }
@@ -105,10 +115,11 @@ function inWords(found) {
   const groups = found.flatMap((line) => line.groups);
   const races = groups.reduce((sum, group) => sum + (found === lines ? group.size : group.races.length), 0);
   const known = found.filter(({ isKnown }) => isKnown).length;
-  const problems = `${counted(found.length - known, 'problem')}${known ? `, ${known} known` : ''}`;
+  const problems = `${countedProblems(found.filter(({ isKnown }) => !isKnown))}${known ? `, ${known} known` : ''}`;
   return `${problems}: ${counted(new Set(groups.map(({ number }) => number)).size, 'group')} with ${counted(races, 'race')}`;
 }
 
+/** Draws the list again: at the start, and when the reader changes the filter or the order. */
 function render() {
   const found = filtered();
   const order = control('order').value;
@@ -119,6 +130,7 @@ function render() {
   control('groups').replaceChildren(...boxes, ...fold('section', known, make('h2', {}, 'known'), make('span', { class: 'size' }, counted(known.length, 'problem'))));
 }
 
+/** Called once, when the page of the view is there. */
 function start() {
   ['kind', 'order'].forEach((id) => control(id).addEventListener('change', render));
   control('text').addEventListener('input', render);

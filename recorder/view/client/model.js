@@ -18,6 +18,7 @@
 const model = /** @type {ViewModel} */ (JSON.parse(document.getElementById('model')?.textContent || ''));
 
 /**
+ * A race as an object. In the page it is a list, and texts are numbers, so that more races have room.
  * @param {import('../types').PackedRace} packed
  * @returns {Race}
  */
@@ -31,6 +32,7 @@ const races = model.races.map(unpack);
 const raceOf = new Map(races.map((race) => [race.number, race]));
 
 /**
+ * Adds to the list of a key.
  * @template K, V
  * @param {Map<K, V[]>} lists @param {K} key @param {V} value
  */

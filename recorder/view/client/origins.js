@@ -3,6 +3,7 @@
 import { make } from './elements.js';
 import { model, races, wordsOf, originsAt } from './model.js';
 
+/** Levels that are drawn at once, and actions: a longer origin is no help to a reader. */
 const DEEPEST = 6;
 const MOST_ORIGINS = 400;
 
@@ -26,6 +27,7 @@ function originsOf(action) {
 }
 
 /**
+ * From what an action comes, as nested lists, so many levels deep.
  * Called by picture.js.
  * @param {number} action
  * @param {number} depth
@@ -77,7 +79,10 @@ function stepsBetween(from, to) {
   return steps;
 }
 
-/** @param {{action: number, rule: number}[]} steps */
+/**
+ * The steps of a path from one action to the other, each with its rule in words.
+ * @param {{action: number, rule: number}[]} steps
+ */
 function stepList(steps) {
   const list = make('ol', { class: 'steps' });
   for (const { action, rule } of steps) {
@@ -105,6 +110,7 @@ function pairBox(from, to) {
 }
 
 /**
+ * The box that says from what both actions come, and on request by which steps one is after the other.
  * Called by races.js.
  * @param {Race} race
  */

@@ -4,6 +4,7 @@ import { make, makeSvg } from './elements.js';
 import { model, originsAt, wordsOf } from './model.js';
 import { originList, originsOf, pairBox } from './origins.js';
 
+/** In pixels of the picture, which grows with its box. */
 const LANE_HEIGHT = 26;
 const LANE_LEFT = 120;
 const PICTURE_WIDTH = 1000;
@@ -36,6 +37,7 @@ class Picture {
     return MARGIN + (model.actions[action][0] + 0.5) * LANE_HEIGHT;
   }
 
+  /** The whole picture: lanes, links, and the two actions. Called by races.js. */
   draw() {
     const svg = makeSvg('svg', { viewBox: `0 0 ${PICTURE_WIDTH} ${this.height}`, role: 'img', 'aria-label': 'the actions in recorded order, a lane for each kind' });
     model.lanes.forEach((name, lane) => svg.append(...this.lane(name, lane)));
@@ -45,6 +47,7 @@ class Picture {
   }
 
   /**
+   * One lane with a tick for each of its actions.
    * @param {string} name
    * @param {number} lane
    */
@@ -72,6 +75,7 @@ class Picture {
   }
 
   /**
+   * The path of a link, higher if it is longer.
    * @param {number} from
    * @param {number} to
    */

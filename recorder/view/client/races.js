@@ -14,7 +14,10 @@ import { sourceBox } from './source.js';
  * @typedef {import('./model.js').ShownProblem} ShownProblem
  */
 
-/** @param {Race} race */
+/**
+ * The box of one race: both places in the source, what a replay found, the lanes, and why nothing orders the two. Made when the reader opens it.
+ * @param {Race} race
+ */
 function raceBox(race) {
   const box = make('article', { class: 'race' });
   const sources = make('div', { class: 'columns' });
@@ -97,7 +100,10 @@ function toldBoxes({ name, sides, details }) {
   return [make('table', { class: 'sides' }, ...rows), ...lines, make('p', { class: 'lines' }, `${name} (for races.known)`)];
 }
 
-/** @param {Race[]} others */
+/**
+ * The other races of a group, closed at first.
+ * @param {Race[]} others
+ */
 function otherRaces(others) {
   const summary = make('summary', {}, `${counted(others.length, 'more race')} of its group`);
   return foldable('others', summary, () => pieces(others, (race) => {

@@ -22,6 +22,7 @@ const EFFECTS = ['an uncaught error', 'a lost act', 'a lost input', 'a lost even
 const RANKS = { not: EFFECTS.length, none: EFFECTS.length + 1, others: EFFECTS.length + 2, same: EFFECTS.length + 3 };
 
 /**
+ * What a replay found, in one word, by which lines are sorted and marked.
  * @param {ShownReplay|undefined} replay
  * @returns {Verdict}
  */
@@ -63,7 +64,10 @@ function replayOfLine({ problems }) {
   return found.sort((a, b) => rankOfReplay(a) - rankOfReplay(b))[0];
 }
 
-/** @param {ShownReplay|undefined} replay */
+/**
+ * Where a race is, if sorted by what replays found: differences first, by the kind of effect.
+ * @param {ShownReplay|undefined} replay
+ */
 function rankOfReplay(replay) {
   const verdict = verdictOf(replay);
   return verdict === 'differs' ? EFFECTS.indexOf(replay?.ownEffect || '') : RANKS[verdict];
@@ -89,7 +93,10 @@ const isHarmless = (line) => verdictOf(replayOfLine(line)) === 'same';
 
 // ---- the box of a race
 
-/** @param {Difference[]} differences */
+/**
+ * The differences that a replay found, in both orders.
+ * @param {Difference[]} differences
+ */
 function differenceTable(differences) {
   const table = make('table', { class: 'differences' }, make('tr', {}, ...['What', 'In the recorded order', 'In the other order'].map((word) => make('th', {}, word))));
   for (const { kind, subject, recorded, other } of differences) {
@@ -118,6 +125,7 @@ function pictureBox(data, title, boxes) {
 }
 
 /**
+ * A table of differences that say less, closed at first.
  * @param {Difference[]|undefined} differences
  * @param {string} words
  */

@@ -6,6 +6,7 @@ import { model } from './model.js';
 const LINES_AROUND = 2; // excerpts.js takes as many
 
 /**
+ * The lines around one place of a race.
  * Called by races.js.
  * @param {string|null} key
  * @param {string} title
@@ -25,6 +26,7 @@ function sourceBox(key, title) {
 }
 
 /**
+ * A line with its number; in that of the place, the word is marked.
  * @param {number} number
  * @param {string} text
  * @param {import('../types').Excerpt|null} excerpt of the line that has the place
