@@ -70,6 +70,7 @@ const FIXES = {
   replies: `if the newer reply is to replace what is shown: ${DISCARD}; if both only add: none`,
   other: `${IF}let one side wait for the other, or check that it is still wanted`,
   flag: 'usually none: the side that comes last sees the flag of the other',
+  ended: 'usually none: after that code the callback does not run',
   counter: 'usually none: the count is the same in both orders',
   ticks: 'usually none: browsers keep this order',
   same: 'usually none: the value is the same in both orders',

@@ -7,6 +7,7 @@
 const { FIRST_FIELD, FIRST_MODULE } = require('../common/numbers.js');
 const { isOfTree } = require('../races/spelled-locations.js');
 const { Accesses, isNothing } = require('./patterns/accesses.js');
+const { EndedCallbacks } = require('./patterns/ended.js');
 const { IdleHandlers } = require('./patterns/idle.js');
 const { UserActs } = require('./patterns/user-acts.js');
 const { Remaining } = require('./patterns/remaining.js');
@@ -59,6 +60,7 @@ class Looks {
     /** @type {Map<string, {line: number, delay: string, first: number}>} the line, the delay and the first tick of each interval */
     this.intervals = new Map();
     this.readIntervals(names);
+    this.ended = new EndedCallbacks(names, words.actions);
     this.idle = new IdleHandlers(names, words.actions);
     this.remaining = new Remaining(report, this.accesses, words.actions);
   }
@@ -99,7 +101,9 @@ class Looks {
     const acts = race.actions.map((action) => this.userActs.actOf(action));
     if (acts[0] && acts[1]) return actsOf(acts[0] === acts[1]);
     if (race.location.startsWith('slot ')) return this.handler(race, acts) || lookOf('other');
-    return this.alike(race) || this.writes(race, acts) || this.typed(race) || this.flag(race) || this.use(race) || this.scratch(race) || lookOf('other');
+    const ended = this.cleared(race);
+    const isWritten = race.modes === 'ww';
+    return this.alike(race) || (isWritten && ended) || this.writes(race, acts) || this.typed(race) || this.flag(race) || this.use(race) || ended || this.scratch(race) || lookOf('other');
   }
 
   /**
@@ -153,6 +157,14 @@ class Looks {
     });
     if (!first || !second || first.delay !== second.delay || first.line > second.line) return null;
     return lookOf('ticks', `the first ticks of two intervals of ${first.delay} ms, which come in the order in which they were set`);
+  }
+
+  /**
+   * A callback, and code that clears it: if this code comes first, the callback does not come. It may need what the callback writes (`use`).
+   * @param {Race} race
+   */
+  cleared(race) {
+    return this.ended.of(race) ? lookOf('ended', 'a callback that the other side clears; here it came first') : null;
   }
 
   /**

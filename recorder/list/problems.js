@@ -42,6 +42,7 @@ class Problems {
     const looks = new Looks(report, names, this.words);
     this.userActs = looks.userActs;
     this.accesses = looks.accesses;
+    this.ended = looks.ended;
     /** @type {NamedRace[]} */
     this.ofRaces = report.races.map((race) => Object.assign(this.lasting.nameRace(race), { look: looks.look(race) }));
     /** The race that is shown for each group. */

@@ -30,6 +30,7 @@ const SAYS = {
   replies: 'An older reply may come after a newer one.',
   other: 'Two accesses to one location that nothing orders.',
   flag: 'Each side sets a flag and asks that of the other.',
+  ended: 'A callback may run before code clears it.',
   counter: 'Both sides count up, and neither uses the value.',
   ticks: 'The first ticks of two intervals of one delay come in order.',
   same: 'Both sides write the same value.',

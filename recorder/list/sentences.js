@@ -9,7 +9,8 @@
  * What a sentence is made of: the two sides of a race in the order of the list, what acts in each as the subject of a sentence, the thing that they touch
  * and the field that a user fills in, in words. `isReplaced`: each side writes all of the thing, and keeps nothing of what was there. `otherwise`: what the
  * browser does for an event without a handler. `replies`: of two replies, their requests. `ofOneAct`: both sides come from one act of a user, as handlers or in another way.
- * @typedef {{sides: [Side, Side], subjects: [string, string], thing: string, field: string, modes: string, kind: string, isReplaced: boolean, otherwise?: string, replies?: import('./race-facts.js').Replies, ofOneAct?: ''|'handlers'|'others'}} Facts
+ * `ended`: a callback, and where code clears it.
+ * @typedef {{sides: [Side, Side], subjects: [string, string], thing: string, field: string, modes: string, kind: string, isReplaced: boolean, otherwise?: string, replies?: import('./race-facts.js').Replies, ofOneAct?: ''|'handlers'|'others', ended?: {callback: string, place: string}|null}} Facts
  */
 
 /** @param {string} text */
@@ -55,6 +56,7 @@ const SENTENCES = {
   replies: ofReplies,
   other: neutral,
   flag: ({ thing }) => `${thing} is a flag that one side sets and the other side reads`,
+  ended: ({ ended }) => `${ended?.callback}${ended?.callback.includes(', ') ? ',' : ''} may run before ${ended?.place || 'other code'} clears it`,
   counter: ({ thing }) => `${thing} is counted up by both sides`,
   ticks: ({ thing }) => `two intervals of one delay tick in the order in which they were set, and reach ${thing}`,
   same: ({ thing }) => `${thing} gets the same value from both sides`,

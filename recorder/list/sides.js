@@ -197,6 +197,7 @@ class Sides {
   leading({ modes, actions }, look) {
     const reader = modes.indexOf('r');
     if (look === 'late' || look === 'missed') return 1 - reader;
+    if (look === 'ended') return 1 - (this.problems.ended.of({ actions })?.side ?? 0);
     if (look === 'field' || look === 'act') return this.problems.userActs.actOf(actions[0]) ? 1 : 0;
     return Math.max(reader, 0);
   }
@@ -215,9 +216,10 @@ class Sides {
     const thing = kind === 'handler' ? this.thing(race.location) : marked(this.thing(race.location));
     const subjects = this.callbacks.subjects(race.actions[first], race.actions[1 - first]);
     const replies = look === 'replies' ? repliesOf(this, race) : undefined;
+    const ended = look === 'ended' ? this.problems.ended.inWords(race, this.callbacks, (line) => this.place(this.words.placeOfLine(line), false)) : null;
     const ofOneAct = this.problems.userActs.ofOneAct(race.actions);
     const isReplaced = this.problems.isReplaced(race);
-    const facts = { sides, subjects, thing, ofOneAct, field: this.field(race.location), modes: race.modes, kind, isReplaced, otherwise: event.otherwise, replies };
+    const facts = { sides, subjects, thing, ofOneAct, field: this.field(race.location), modes: race.modes, kind, isReplaced, otherwise: event.otherwise, replies, ended };
     const order = orderOf(this, race, look, first, facts);
     if (look === 'other') this.addWritten(sides, race, first);
     const use = { kind, isOfUser: !!sides[0].act, modes: race.modes, isOfOneAct: !!ofOneAct, isInLibraries: isInLibraries(this, race), replace: replies?.replace, change: order.change, line: sides[0].own?.[1], ...event, script: event.script?.file };

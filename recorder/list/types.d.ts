@@ -34,6 +34,8 @@ export interface Facts {
   place?: Place;
   way?: Place;
   ready?: Place;
+  queue?: string;
+  ends?: number;
 }
 
 /** What is known of an object, a closure or a module. */

@@ -50,6 +50,7 @@ import { Chaos } from './tasks/chaos.js';
 import { Clock } from './tasks/clock.js';
 import { Connections } from './tasks/connections.js';
 import { EarlierReactions } from './tasks/earlier-reactions.js';
+import { EndedCallbacks } from './tasks/ended-callbacks.js';
 import { EndedRequests } from './tasks/ended-requests.js';
 import { Jobs } from './tasks/jobs.js';
 import { Observers } from './tasks/observers.js';
@@ -119,6 +120,7 @@ class Page {
     this.observers = new Observers(this);
     this.requests = new Requests(this);
     this.endedRequests = new EndedRequests(this);
+    this.endedCallbacks = new EndedCallbacks(this);
     this.connections = new Connections(this);
     this.messages = new Messages(this);
     this.reactions = new Reactions(this);
@@ -158,7 +160,7 @@ class Page {
     if (this.recording.objects) this.recording.objects.addWindow(this);
     this.#beginDocument();
     const parts = [this.chaos, this.guards, this.handlers, this.onHandlers, this.capturing, this.calls, this.attributes, this.made, this.lookups, this.fields, this.definitions, this.causes, this.media, this.navigations, this.timers, this.callbacks,
-      this.jobs, this.promises, this.observers, this.requests, this.endedRequests, this.connections, this.messages, this.reactions, this.clock, this.unseen];
+      this.jobs, this.promises, this.observers, this.requests, this.endedRequests, this.endedCallbacks, this.connections, this.messages, this.reactions, this.clock, this.unseen];
     each(parts, (part) => part.start());
     this.#replaceToString();
     this.tree.start(maker);

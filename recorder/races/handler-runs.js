@@ -3,8 +3,12 @@
 
 /** A part of `IdleHandlers` (list) and of `Along` (replays). */
 class HandlerRuns {
-  /** @param {import('./actions.js').Actions} actions */
-  constructor(actions) {
+  /**
+   * @param {import('./actions.js').Actions} actions
+   * @param {{[number: string]: {ends?: number}}} facts of the handlers
+   */
+  constructor(actions, facts = {}) {
+    this.facts = facts;
     this.actions = actions;
     /** @type {Map<string, number>} by dispatch and handler, the first action that runs it */
     this.runs = new Map();
@@ -58,7 +62,15 @@ class HandlerRuns {
     const { list, lines } = this.actions;
     const next = list[run + 1];
     if (!next || !['run', 'close'].includes(next.words[0]) || next.words[1] !== list[run].words[1]) return false;
-    return lines.slice(list[run].line, next.line - 1).every((line) => line.startsWith('r '));
+    return lines.slice(list[run].line, next.line - 1).every((line) => line.startsWith('r ') || this.isEnd(line));
+  }
+
+  /**
+   * Whether a line stands for a call that clears a callback which has run.
+   * @param {string} line
+   */
+  isEnd(line) {
+    return line.startsWith('on ') && this.facts[line.slice(3)]?.ends !== undefined;
   }
 }
 

@@ -85,6 +85,9 @@ export interface HandlerFacts extends Asked {
   target?: number;
   /** Whether it only orders other handlers. */
   isEmpty?: boolean;
+  /** If it stands for code that clears a callback: `timeout` or `interval`, and its number. */
+  queue?: string;
+  ends?: number;
 }
 
 export interface IntervalFacts extends Asked {

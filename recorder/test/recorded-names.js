@@ -64,6 +64,7 @@ function rowsOfElements() {
     ['cookies and storage', ['cookie', ...keysOf(STORAGE_CALLS)]],
     ['ids', namesOf(lookups.LOOKUPS)],
     ['elements that another event made', namesOf(lookups.OTHERS)],
+    ['the definition of a custom element', ['define', ...hookedBy('page/accesses/definitions.js')], 'of `customElements`, and members that only its class gives an element'],
   ];
 }
 
@@ -96,6 +97,7 @@ function rowsOfCalls() {
     ['changes the tree, and what is loaded', [...namesOf(changes.INSERTIONS), ...namesOf(changes.SETTERS), ...secondsOf(SOURCES), ...hooks('document/made').filter((name) => name !== 'Image' && name !== 'Audio')]],
     ['makes an element', ['createElement', 'createElementNS', 'Image', 'Audio', ...hooks('document/reactions').filter((name) => name === 'define' || name === 'whenDefined')]],
     ['is called back', [...hooks('tasks/timers'), ...secondsOf(constantsOf('page/tasks/callbacks.js').CALLBACKS), ...constantsOf('page/tasks/observers.js').OBSERVERS, ...hooks('tasks/observers')]],
+    ['clears a callback', Object.keys(constantsOf('page/tasks/ended-callbacks.js').QUEUES)],
     ['settles or waits for a promise', hooks('tasks/promises')],
     ['sends a request', [...hooks('tasks/requests'), ...connections.CONNECTIONS, ...namesOf(connections.READERS), ...namesOf(connections.ASKERS)]],
     ['posts a message', hooks('events/messages')],

@@ -19,10 +19,10 @@ class IdleHandlers {
    * @param {import('../types').Names} names
    * @param {import('../../races/actions.js').Actions} actions
    */
-  constructor({ elements }, actions) {
+  constructor({ elements, handlers }, actions) {
     this.elements = elements;
     this.actions = actions;
-    this.runs = new HandlerRuns(actions);
+    this.runs = new HandlerRuns(actions, handlers);
   }
 
   /**

@@ -24,6 +24,7 @@ const LOOKS = {
   replies: { name: 'overwriting replies', part: REST },
   other: { name: 'other', part: REST },
   flag: { name: 'flag that both ask', part: HARMLESS },
+  ended: { name: 'ended callback', part: HARMLESS },
   counter: { name: 'counter', part: HARMLESS },
   ticks: { name: 'first ticks of intervals', part: HARMLESS },
   same: { name: 'same value', part: HARMLESS },

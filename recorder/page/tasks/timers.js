@@ -123,16 +123,17 @@ class Timers {
    * @param {TraceEvent|null} asker
    * @param {Function} callback
    * @param {any[]} words whatever the page passes
-   * @param {{place?: InQueue|null, nesting?: number, timeout?: number, delay?: number}} more `place` of a callback in a queue, `nesting`: how deep a timer is
-   *   nested, the number and the delay of a timeout
+   * @param {{requested: import('./ended-callbacks.js').Requested, place?: InQueue|null, nesting?: number, timeout?: number, delay?: number}} more `place` of a
+   *   callback in a queue, `nesting`: how deep a timer is nested, the number and the delay of a timeout
    */
-  #run(line, kind, asker, callback, words, { place = null, nesting = 0, timeout, delay = 0 }) {
+  #run(line, kind, asker, callback, words, { requested, place = null, nesting = 0, timeout, delay = 0 }) {
     const { recording, page } = this;
     if (recording.isOver) return settings.standsStill ? undefined : apply(callback, page.window, words);
     recording.startTask();
     recording.nesting = nesting;
     recording.begin(line, kind, undefined, [asker]);
     recording.running.timeout = timeout;
+    requested.ran = recording.task;
     if (timeout && asker) this.#noteRan({ timeout, delay, asker, event: recording.running });
     if (place?.before) {
       page.joins.here(place.before.ends, place.why);
@@ -180,8 +181,11 @@ class Timers {
       const hold = steering.asks('set');
       const callable = timers.#callable(callback);
       const asker = recording.running;
-      const run = steering.limited('set', () => timers.#run(`timer ${timeout}`, 'timer', isKnown ? asker : null, callable, words, { nesting, timeout, delay: compared }));
-      return steering.note(hold, window, 'timers', apply(native, window, [steering.callback(hold, run, (again) => apply(native, window, [again, 0])), delay]));
+      /** @type {import('./ended-callbacks.js').Requested} */
+      const requested = { queue: 'timeout', number: timeout };
+      const run = steering.limited('set', () => timers.#run(`timer ${timeout}`, 'timer', isKnown ? asker : null, callable, words, { requested, nesting, timeout, delay: compared }));
+      const given = apply(native, window, [steering.callback(hold, run, (again) => apply(native, window, [again, 0])), delay]);
+      return steering.note(hold, window, 'timers', timers.page.endedCallbacks.request('timers', given, requested));
     });
   }
 
@@ -202,8 +206,11 @@ class Timers {
       const hold = steering.asks('every');
       const callable = timers.#callable(callback);
       const asker = recording.running;
-      const run = steering.limited('every', () => timers.#run(`tick ${interval}`, 'tick', asker, callable, words, { nesting: ++nesting }));
-      return steering.note(hold, window, 'timers', apply(native, window, [steering.callback(hold, run, (again) => again()), delay]));
+      /** @type {import('./ended-callbacks.js').Requested} */
+      const requested = { queue: 'interval', number: interval };
+      const run = steering.limited('every', () => timers.#run(`tick ${interval}`, 'tick', asker, callable, words, { requested, nesting: ++nesting }));
+      const given = apply(native, window, [steering.callback(hold, run, (again) => again()), delay]);
+      return steering.note(hold, window, 'timers', timers.page.endedCallbacks.request('timers', given, requested));
     });
   }
 
@@ -239,9 +246,12 @@ class Timers {
       const hold = steering.asks(words[0]);
       const asker = recording.running;
       const place = isQueue && !isIdle ? timers.#placeOfFrame() : null;
-      const run = steering.limited(words[0], (time) => timers.#run(`${words[1]} ${number}`, 'tick', asker, callback, [time], { place }));
+      /** @type {import('./ended-callbacks.js').Requested} */
+      const requested = { queue: 'interval', number };
+      const run = steering.limited(words[0], (time) => timers.#run(`${words[1]} ${number}`, 'tick', asker, callback, [time], { requested, place }));
       const ask = (/** @type {import('../types').Callback} */ next) => apply(native, window, joined([next], rest));
-      return steering.note(hold, window, isIdle ? 'idle' : 'frames', ask(steering.callback(hold, run, ask)));
+      const queue = isIdle ? 'idle' : 'frames';
+      return steering.note(hold, window, queue, page.endedCallbacks.request(queue, ask(steering.callback(hold, run, ask)), requested));
     });
   }
 }

@@ -76,7 +76,7 @@ class Along {
    * @returns {RunOfHandler|null}
    */
   runOf(keys, action, key) {
-    const runs = this.runs.get(keys) || new HandlerRuns(keys.actions);
+    const runs = this.runs.get(keys) || new HandlerRuns(keys.actions, keys.names.handlers);
     this.runs.set(keys, runs);
     const handler = runs.handlersOf(action).find((one) => keys.handler(one) === key);
     if (handler === undefined) return null;

@@ -130,6 +130,12 @@ exports.cases = [
     races: ['sent'],
   },
   {
+    page: 'ended-callback.html', // `forgets` clears nothing that is known
+    words: ['--do', 'click:button'],
+    due: ['timer', 'w state', 'timer', 'w other', 'tick', 'w kept', 'run forgets', 'w other', 'run pauses', 'on the end of a callback', 'w kept', 'run stops', 'on the end of a callback', 'w state'],
+    races: ['kept', 'mousedown of button', 'mouseup of button', 'other', 'state'],
+  },
+  {
     page: 'worker.html',
     words: ['--time', '20'],
     due: [

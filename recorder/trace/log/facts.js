@@ -8,7 +8,7 @@ const { withoutCommands } = require('../../common/shown.js');
  * What is known of a number: its kind says which members it has.
  * @typedef {{kind: string, number: number, tag?: string, id?: string, field?: string, source?: string, loads?: string, document?: number, standsFor?: number,
  *   message?: number, why?: string, address?: string, frame?: number, type?: string, target?: number, function?: string, isEmpty?: boolean, method?: string,
- *   url?: string, of?: number, act?: number, site?: number, made?: string, name?: string, value?: string, places?: string, ready?: string}} Fact
+ *   url?: string, of?: number, act?: number, site?: number, made?: string, name?: string, value?: string, places?: string, ready?: string, queue?: string, ends?: number}} Fact
  * @typedef {(value: unknown) => unknown} Reader gives the value as it is taken, or undefined if it is none
  */
 
@@ -76,7 +76,7 @@ const site = (value) => (value === -1 ? value : number(value));
 const KINDS = new Map(Object.entries({
   element: { tag: text, id: raw, field: text, source: raw, loads: address, document: number, standsFor: number, message: number, why },
   document: { address, frame: number },
-  handler: { type: text, target: number, function: text, isEmpty: flag },
+  handler: { type: text, target: number, function: text, isEmpty: flag, queue: text, ends: number },
   timeout: { function: text, ready: place },
   interval: { why, function: text },
   request: { method: text, address, url: address, of: number },
