@@ -148,9 +148,10 @@ exports.cases = [
     due: ['fire x-card attributeChangedCallback', 'w lastSize', 'fire x-card connectedCallback', 'run the reaction before', 'run connectedCallback', 'w count',
       'fire x-card attributeChangedCallback', 'run the reaction before', 'run attributeChangedCallback', 'fire x-card connectedCallback', 'run the reaction before',
       'run connectedCallback', 'w count'],
+    words: ['--slow', '300'],
     races: [],
   },
-  { page: 'custom-in-table.html', due: ['fire x-card connectedCallback', 'w latest', 'fire x-card attributeChangedCallback', 'w latest', 'fire x-card connectedCallback'], races: ['latest'] },
+  { page: 'custom-in-table.html', due: ['fire x-card connectedCallback', 'w latest', 'fire x-card attributeChangedCallback', 'w latest', 'fire x-card connectedCallback'], words: ['--slow', '300'], races: ['latest'] },
   { page: 'custom-two-scripts.html', due: ['fire x-first connectedCallback', 'w latest', 'fire x-second attributeChangedCallback', 'w latest'], races: ['latest'] },
   {
     page: 'slot-change.html',
