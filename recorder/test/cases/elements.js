@@ -152,7 +152,7 @@ exports.cases = [
     races: [],
   },
   { page: 'custom-in-table.html', due: ['fire x-card connectedCallback', 'w latest', 'fire x-card attributeChangedCallback', 'w latest', 'fire x-card connectedCallback'], words: ['--slow', '300'], races: ['latest'] },
-  { page: 'custom-two-scripts.html', due: ['fire x-first connectedCallback', 'w latest', 'fire x-second attributeChangedCallback', 'w latest'], races: ['latest'] },
+  { page: 'custom-two-scripts.html', due: ['fire x-first connectedCallback', 'w latest', 'fire x-second attributeChangedCallback', 'w latest'], words: ['--slow', '700'], races: ['latest'] },
   {
     page: 'slot-change.html',
     due: ['parse p#one plain', 'fire slot slotchange', 'run the step of its first node', 'run slotted', 'r #one', 'w items', 'parse script inline', 'exec script',
