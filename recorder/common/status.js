@@ -9,7 +9,7 @@ const STATUS = {
   usage: 2,
   /** The analyzer refused the trace: a bug of the recorder. */
   refused: 3,
-  /** The page did not load, or its recording is not complete. */
+  /** The page did not load, its recording is not complete, or nothing was recorded. */
   noPage: 4,
   /** The browser failed, or a file could not be written. */
   failed: 5,

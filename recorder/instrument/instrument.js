@@ -56,8 +56,8 @@ function leadingImports(body) {
 }
 
 /**
- * Where the run's first call can be: after the directives (`'use strict'`), which count only at the start. In a function: `startOfStatements` of
- * insert/inserter.js.
+ * Where the run's first call can be (in a function: insert/inserter.js, `startOfStatements`): after the directives (`'use strict'`), which count only at
+ * the start.
  * @param {Program} program
  * @param {string} code
  * @param {Options['kind']} kind

@@ -45,7 +45,7 @@ class Problems {
     this.ended = looks.ended;
     /** @type {NamedRace[]} */
     this.ofRaces = report.races.map((race) => Object.assign(this.lasting.nameRace(race), { look: looks.look(race) }));
-    /** The race that is shown for each group. */
+    /** The race that is shown for each group; both from 0, unlike in the report. */
     this.leads = report.groups.map(({ race }) => race - 1);
     report.races.forEach((race, k) => this.mayLead(race, k));
     this.list = this.fold();
@@ -63,7 +63,7 @@ class Problems {
   }
 
   /**
-   * Merges the races into problems, by the problem's name, and sorts these by their patterns.
+   * Merges the races with one name into one problem, and sorts these by their patterns.
    * @returns {Problem[]}
    */
   fold() {
@@ -189,7 +189,7 @@ class Problems {
 
   /**
    * Whether each side of a race writes all of a thing: an element's content, a set of keys or a number of items keeps a part of what was there, and two
-   * elements can have one id. Called by sides.js.
+   * elements can have one id. Called by sides.js and race-facts.js.
    * @param {Race} race
    */
   isReplaced(race) {

@@ -30,7 +30,7 @@ function writerBefore(accesses, location, line) {
 /**
  * Whether the read of a race finds what the user typed only if it comes before the write. A value that is made of the typed one is no other text. Called by
  * list/looks.js.
- * @param {import('../types').Race} race  at a field
+ * @param {import('../types').Race} race at a field
  * @param {Accesses} accesses
  * @param {Action[]} actions
  */

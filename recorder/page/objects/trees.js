@@ -167,7 +167,7 @@ class Trees {
   }
 
   /**
-   * A style, the classes or the data of an element. Called by collections.js and properties.js.
+   * A style, the classes or the data of an element. Of `classList` only what reads it: `noteChange` has the changes. Called by collections.js and properties.js.
    * @param {import('../types').Holder} owner
    * @param {object} part
    * @param {import('../types').VariableName} name

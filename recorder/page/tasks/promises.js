@@ -127,7 +127,7 @@ class Promises {
   }
 
   /**
-   * What the browser itself registers at each of several promises.
+   * Wraps one of the two functions that the browser itself registers at each of several promises; the browser calls it when that promise is settled.
    * @param {Several} made
    * @param {import('../types').Method} callback
    * @param {boolean} isFulfilled

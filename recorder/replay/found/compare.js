@@ -1,6 +1,6 @@
 'use strict';
 // What differs between the ends of two runs. A user or an author can notice a difference that `isSeen`, unlike that of variables or of how often an address
-// was requested. Texts and elements (DOM), values, requests, events, handlers.
+// was requested. Errors, errors on the console, dialogs, texts and elements (DOM), values, requests, events, handlers.
 
 /** @typedef {import('../../races/keys.js').Keys} Keys */
 /** @typedef {import('../types').Difference} Difference */
