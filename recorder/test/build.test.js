@@ -101,7 +101,6 @@ test('a mistake is reported before anything is recorded', LIMIT, async () => {
   const wrong = [
     [['--known', 'bad'], /bad, line 2: no name of a race/], [['--known', 'none'], /none: there is no such file/], [['--write-known'], /--write-known requires --known FILE/],
     [['--sarif'], /the value of --sarif is missing/], [['--runs', '0'], /--runs takes a whole number from 1 to 100/],
-    [['--runs', '2', '--replay'], /--replay cannot be combined with --runs/],
   ];
   for (const [words, said] of wrong) {
     const { status, stderr } = await page(...words);
